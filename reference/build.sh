@@ -1,0 +1,16 @@
+#!/bin/sh
+# Builds the reference and prints the path of the program.
+set -eu
+
+here=$(cd "$(dirname "$0")" && pwd)
+target=$(dirname "$here")/target/reference
+program=$target/release/reference
+
+if command -v cargo >/dev/null 2>&1; then
+    cargo build --release --offline --quiet \
+        --manifest-path "$here/Cargo.toml" --target-dir "$target" >&2
+else
+    mkdir -p "$target/release"
+    rustc --edition 2021 -O --crate-name reference -o "$program" "$here/src/main.rs" >&2
+fi
+echo "$program"
