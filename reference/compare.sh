@@ -8,6 +8,10 @@ if [ $# -lt 1 ] || [ $# -gt 3 ]; then
     echo "usage: compare.sh REPLAY [N] [FIRSTSEED]" >&2
     exit 2
 fi
+if [ ! -f "$1" ]; then
+    echo "compare.sh: no program $1" >&2
+    exit 2
+fi
 here=$(cd "$(dirname "$0")" && pwd)
 replay=$(readlink -f "$1")
 count=${2:-4000}

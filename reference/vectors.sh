@@ -12,7 +12,10 @@ directory=$1
 reference=$("$here/build.sh")
 
 # Records only what agrees with the outputs worked out by hand.
-"$reference" rows >/dev/null
+if ! "$reference" rows >/dev/null; then
+    echo "vectors.sh: the reference fails its own rows" >&2
+    exit 1
+fi
 mkdir -p "$directory"
 
 # record NAME COMMAND..: the command prints the input.
@@ -28,12 +31,12 @@ for case in $("$reference" cases); do
 done
 
 for kind in steady bursts onoff extremes refusals mixed; do
-    for seed in 1 2 3 4 5 6 7; do
+    for seed in 1 2 3 4 5; do
         record "trace-$kind-$seed" "$reference" trace "$kind" "$seed"
     done
 done
 for kind in damaged scraps; do
-    for seed in 1 2 3 4 5 6 7 8 9 10 11 12; do
+    for seed in 1 2 3 4 5 6 7 8 9; do
         record "trace-$kind-$seed" "$reference" trace "$kind" "$seed"
     done
 done

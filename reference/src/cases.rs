@@ -296,6 +296,24 @@ fn well_formed() -> Vec<Case> {
              refused=2 line=3\n",
         ),
         Case::new(
+            "size-before-full-queue",
+            b"flow=0 weight=16\n\
+              arrive=0 size=1\n\
+              arrive=0 size=1\n\
+              arrive=0 size=1\n\
+              arrive=0 size=1\n\
+              arrive=0 size=1\n\
+              arrive=0 size=1\n\
+              arrive=0 size=1\n\
+              arrive=0 size=1\n\
+              arrive=0 size=0\n\
+              arrive=0 size=257\n\
+              arrive=0 size=256\n",
+            "refused=5 line=10\n\
+             refused=5 line=11\n\
+             refused=6 line=12\n",
+        ),
+        Case::new(
             "send-zero",
             b"send=0\n\
               flow=0 weight=3\n\

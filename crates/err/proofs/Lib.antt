@@ -1,1 +1,7 @@
 pub mod Bench
+pub mod Counts
+pub mod Rounding
+pub mod Line
+pub mod Flows
+pub mod Refusals
+pub mod Keeps

@@ -27,6 +27,14 @@ const HABITS: [Habit; 6] = [
 ];
 const EXTREME_HABITS: [Habit; 3] = [&[(1, 1)], &[(256, 256)], &[(1, 1), (256, 256)]];
 
+/// What the weights of one trace are drawn from.
+const WEIGHTS: [&[i64]; 3] = [
+    &[1],
+    &[1, 2, 3],
+    &[1, 2, 3, 4, 5, 6, 7, 8, 9, 10, 11, 12, 13, 14, 15, 16],
+];
+const EXTREME_WEIGHTS: &[i64] = &[1, 16];
+
 pub struct Script {
     pub random: Random,
     pub text: Vec<u8>,
@@ -100,7 +108,7 @@ impl Script {
 
     pub fn open_some(&mut self) {
         let few = self.random.pick(&[3, 6, 12, FLOWS]);
-        let count = self.random.between(2, few) as usize;
+        let count = self.random.between(1, few) as usize;
         self.open_flows(count);
     }
 
@@ -116,12 +124,8 @@ impl Script {
 
     fn weights(&mut self) -> &'static [i64] {
         match self.style {
-            Style::Extreme => &[1, 16],
-            Style::Plain => self.random.pick(&[
-                &[1_i64][..],
-                &[1, 2, 3],
-                &[1, 2, 3, 4, 5, 6, 7, 8, 9, 10, 11, 12, 13, 14, 15, 16],
-            ]),
+            Style::Plain => self.random.pick(&WEIGHTS),
+            Style::Extreme => EXTREME_WEIGHTS,
         }
     }
 

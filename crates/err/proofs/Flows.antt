@@ -1,0 +1,139 @@
+-- What putting one flow in place does to the others, and which changes of a flow keep its rules.
+use Prim.Native.Nat.{ℕ, zero, suc, _+_, _*_, _-_, _%_, _≤_, _<_}
+use mathlib.Core.Path.{_≡_, refl, sym, ap, _∙_, subst}
+use mathlib.Core.List.{List, [], _∷_, _++_}
+use native.Mathlib.Omega.{arith}
+use native.Mathlib.Decide.{decLt}
+use lib.ListN.{length, getD, set, length-append, length-set, List·getD-eq-default}
+use lib.Seq.{getD-set-same, getD-set-other, set-getD}
+use Rattle.err.specs.Limits.{flowLimit, weightLimit, sizeLimit, queueLimit, markLimit}
+use Rattle.err.specs.Model.{Flow, Round, Scheduler, flowAt, closedFlow}
+use Rattle.err.specs.Steps.{packetJoined, surplusCleared, firstLeft, excessKept}
+use Rattle.err.specs.Calls.{put, openFlow}
+use Rattle.err.specs.Rules.{Sizes, none, one, FlowRules, RoundRules, Rules, activity}
+use Rattle.err.proofs.Line.{OnlyAt, everywhere}
+
+pub at-put : (s : Scheduler) (f : ℕ) (x : Flow) (r : Round) → f < length (s .flows) → flowAt (put s f x r) f ≡ x
+unfolding put
+at-put s f x r h = getD-set-same (s .flows) f x closedFlow h
+
+pub at-others : (s : Scheduler) (f : ℕ) (x : Flow) (r : Round) → OnlyAt f (flowAt s) (flowAt (put s f x r))
+unfolding put
+at-others s f x r g d = getD-set-other (s .flows) f g x closedFlow d
+
+pub put-back : (s : Scheduler) (f : ℕ) → put s f (flowAt s f) (s .round) ≡ s
+unfolding put
+put-back s f = ap (λ (l : List Flow). record { flows = l; round = s .round }) (set-getD (s .flows) f closedFlow)
+
+-- A flow with a packet waiting has a number below the limit.
+pub waiting-in-reach : (s : Scheduler) (f : ℕ) → length (s .flows) ≡ flowLimit → (flowAt s f .queue ≡ [] → ⊥) → f < flowLimit
+waiting-in-reach s f e h =
+    elim (decLt f flowLimit) [
+      yes b ↦ b
+      | no b ↦ absurd (h (ap (λ (x : Flow). x .queue) (List·getD-eq-default (s .flows) closedFlow {n = f} (omega arith))))
+    ]
+
+-- A number that no flow has stands for a flow that is not active.
+pub beyond-not-active : (s : Scheduler) → length (s .flows) ≡ flowLimit → (g : ℕ) → flowLimit ≤ g → activity (flowAt s g) ≡ 0
+beyond-not-active s e g h = ap activity (List·getD-eq-default (s .flows) closedFlow {n = g} (omega arith))
+
+pub rules-put : (s : Scheduler) (f : ℕ) (x : Flow) (r : Round) → Rules s → f < flowLimit → FlowRules x
+  → RoundRules (flowAt (put s f x r)) r (r .turn) → Rules (put s f x r)
+unfolding put
+rules-put s f x r R b X T =
+    record {
+      all-flows = length-set (s .flows) f x ∙ R .all-flows;
+      flow-rules =
+        everywhere (λ g y. FlowRules y) f (flowAt s) (flowAt (put s f x r)) (at-others s f x r)
+        (subst FlowRules (sym (at-put s f x r (omega (arith, R .all-flows)))) X)
+        (λ g d. R .flow-rules g);
+      round-rules = T
+    }
+
+pub sizes-joined : {q : List ℕ} {size : ℕ} → Sizes q → 1 ≤ size → size ≤ sizeLimit → Sizes (q ++ (size ∷ []))
+sizes-joined none h k = one h k none
+sizes-joined (one p l more) h k = one p l (sizes-joined more h k)
+
+pub closed-flow-rules : FlowRules closedFlow
+closed-flow-rules =
+    record {
+      weight-in-range = omega arith;
+      surplus-in-range = omega arith;
+      slot-in-range = omega arith;
+      waiting-in-range = omega arith;
+      sizes-in-range = none;
+      open-if-waiting = λ e. refl;
+      no-surplus-if-empty = λ e. refl
+    }
+
+pub open-flow-rules : (weight : ℕ) → weight ≤ weightLimit → FlowRules (openFlow weight)
+open-flow-rules weight h =
+    record {
+      weight-in-range = h;
+      surplus-in-range = omega arith;
+      slot-in-range = omega arith;
+      waiting-in-range = omega arith;
+      sizes-in-range = none;
+      open-if-waiting = λ e. refl;
+      no-surplus-if-empty = λ e. refl
+    }
+
+-- Step 1.
+pub joined-flow-rules : (w σ k : ℕ) (q : List ℕ) (size : ℕ) → FlowRules (record { weight = w; surplus = σ; slot = k; queue = q })
+  → (w ≡ 0 → ⊥) → 1 ≤ size → size ≤ sizeLimit → length q < queueLimit
+  → FlowRules (packetJoined (record { weight = w; surplus = σ; slot = k; queue = q }) size)
+unfolding packetJoined
+joined-flow-rules w σ k [] size R d h l b =
+    record {
+      weight-in-range = R .weight-in-range;
+      surplus-in-range = omega arith;
+      slot-in-range = R .slot-in-range;
+      waiting-in-range = omega arith;
+      sizes-in-range = one h l none;
+      open-if-waiting = λ e. absurd (d e);
+      no-surplus-if-empty = λ e. refl
+    }
+joined-flow-rules w σ k (p ∷ q) size R d h l b =
+    record {
+      weight-in-range = R .weight-in-range;
+      surplus-in-range = R .surplus-in-range;
+      slot-in-range = R .slot-in-range;
+      waiting-in-range = omega (arith, length-append q (size ∷ []));
+      sizes-in-range = sizes-joined (R .sizes-in-range) h l;
+      open-if-waiting = λ e. absurd (d e);
+      no-surplus-if-empty = λ e. let z : _≡_ {A = ℕ} 0 1 = cc in absurd (omega arith)
+    }
+
+-- Step 2.
+pub cleared-flow-rules : (x : Flow) → FlowRules x → FlowRules (surplusCleared x)
+unfolding surplusCleared
+cleared-flow-rules x R =
+    record {
+      weight-in-range = R .weight-in-range;
+      surplus-in-range = omega arith;
+      slot-in-range = R .slot-in-range;
+      waiting-in-range = R .waiting-in-range;
+      sizes-in-range = R .sizes-in-range;
+      open-if-waiting = R .open-if-waiting;
+      no-surplus-if-empty = λ e. refl
+    }
+
+-- Steps 3 and 6. What is left of a queue, with a surplus that fits.
+sizes-left : {p : ℕ} {q : List ℕ} → Sizes (p ∷ q) → Sizes q
+sizes-left (one h l more) = more
+
+pub first-in-range : {p : ℕ} {q : List ℕ} → Sizes (p ∷ q) → (1 ≤ p) × (p ≤ sizeLimit)
+first-in-range (one h l more) = (h, l)
+
+pub left-flow-rules : (w σ k : ℕ) (p : ℕ) (q : List ℕ) (σ′ : ℕ) → FlowRules (record { weight = w; surplus = σ; slot = k; queue = p ∷ q })
+  → σ′ ≤ markLimit → (q ≡ [] → σ′ ≡ 0) → FlowRules (record { weight = w; surplus = σ′; slot = (k + 1) % queueLimit; queue = q })
+left-flow-rules w σ k p q σ′ R h z =
+    record {
+      weight-in-range = R .weight-in-range;
+      surplus-in-range = h;
+      slot-in-range = omega arith;
+      waiting-in-range = omega (arith, R .waiting-in-range);
+      sizes-in-range = sizes-left (R .sizes-in-range);
+      open-if-waiting = λ e. let u : p ∷ q ≡ [] = R .open-if-waiting e in let z : _≡_ {A = ℕ} 0 1 = cc in absurd (omega arith);
+      no-surplus-if-empty = z
+    }
