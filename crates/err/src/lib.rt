@@ -8,7 +8,7 @@ pub const WEIGHT_LIMIT: usize = 16;
 // Packet sizes are 1 to 256 bytes.
 pub const SIZE_LIMIT: usize = 256;
 // At most 8 packets of a flow wait.
-pub const QUEUE_LIMIT: usize = 8;
+pub const QUEUE_LIMIT: u8 = 8;
 
 // Document 01's refusals, by number.
 pub const NO_SUCH_FLOW: u8 = 1;

@@ -1,0 +1,73 @@
+-- Lists in cells: one more, one less, and back. A flow that is encoded is seen again as it was.
+use Prim.Native.Nat.{ℕ, zero, suc, pred, _+_, _-_, _≤_, _<_}
+use mathlib.Core.Path.{_≡_, refl, sym, ap, ap₂, _∙_, subst}
+use mathlib.Core.List.{List, [], _∷_, _++_, map, append-assoc}
+use native.Mathlib.Omega.{arith}
+use lib.ListN.{length, getD, set, take, drop, replicate, length-append, length-replicate, length-map, replicate-append-replicate}
+use lib.Seq.{take-append-seam, set-append-seam}
+use Rattle.err.specs.Limits.{queueLimit, flowLimit}
+use Rattle.err.specs.Model.{Flow, Round, Scheduler}
+use Rattle.err.specs.Rules.{Sizes, none, one, FlowRules}
+use Rattle.order.specs.Encoding.{cells, encodeFlow, viewFlow, encodeRound, viewRound}
+use Rattle.order.specs.Premises.{FlowReady}
+use Rattle.order.specs.declared.FlowCell.{FlowCell}
+use Rattle.order.specs.declared.RoundCell.{RoundCell}
+
+pub cells-length : (n : ℕ) (l : List ℕ) → length l ≤ n → length (cells n l) ≡ n
+unfolding cells
+cells-length n l h = omega (arith, length-append l (replicate (n - length l) 0), length-replicate {A = ℕ} (n - length l) 0)
+
+pub cells-seen : (n : ℕ) (l : List ℕ) → take (length l) (cells n l) ≡ l
+unfolding cells
+cells-seen n l = take-append-seam l (replicate (n - length l) 0)
+
+-- One more at the end is a store behind the last.
+pub cells-joined : (n : ℕ) (l : List ℕ) (v : ℕ) → length l < n → set (cells n l) (length l) v ≡ cells n (l ++ (v ∷ []))
+unfolding cells
+cells-joined n l v h =
+    go (n - length l) (n - length (l ++ (v ∷ []))) (omega (arith, length-append l (v ∷ [])))
+  where
+    go : (m k : ℕ) → m ≡ suc k → set (l ++ replicate m 0) (length l) v ≡ l ++ (v ∷ []) ++ replicate k 0
+    go zero k e = absurd (omega arith)
+    go (suc m) k e =
+        let same : m ≡ k = omega arith in
+        set-append-seam l 0 (replicate m 0) v ∙ rw (same, append-assoc)
+
+-- One less at the front is a shift.
+pub cells-left : (n p : ℕ) (l : List ℕ) → suc (length l) ≤ n → drop 1 (cells n (p ∷ l)) ++ (0 ∷ []) ≡ cells n l
+unfolding cells
+cells-left n p l h =
+    let longer : n - length l ≡ n - suc (length l) + 1 = omega arith in
+    append-assoc l (replicate (n - suc (length l)) 0) (0 ∷ [])
+    ∙ ap (λ (t : List ℕ). l ++ t) (replicate-append-replicate (n - suc (length l)) 1 0)
+    ∙ ap (λ (m : ℕ). l ++ replicate m 0) (sym longer)
+
+sizes-seen : {q : List ℕ} → Sizes q → map suc (map pred q) ≡ q
+sizes-seen none = refl
+sizes-seen (one {p} h k more) = let back : suc (pred p) ≡ p = omega arith in ap₂ (λ (a : ℕ) (l : List ℕ). a ∷ l) back (sizes-seen more)
+
+pub flow-seen : (x : Flow) → Sizes (x .queue) → viewFlow (encodeFlow x) ≡ x
+unfolding viewFlow encodeFlow
+flow-seen x h =
+    ap (λ (q : List ℕ). record { weight = x .weight; surplus = x .surplus; slot = x .slot; queue = q })
+    (ap (λ (n : ℕ). map suc (take n (cells queueLimit (map pred (x .queue))))) (sym (length-map (x .queue) pred))
+    ∙ ap (map suc) (cells-seen queueLimit (map pred (x .queue)))
+    ∙ sizes-seen h)
+
+pub flow-ready : (x : Flow) → FlowRules x → FlowReady (encodeFlow x)
+flow-ready x R =
+    record {
+      form = ap encodeFlow (sym (flow-seen x (R .sizes-in-range)));
+      rules = subst FlowRules (sym (flow-seen x (R .sizes-in-range))) R
+    }
+
+-- What a flow's cell has, by what it stands for.
+module _ (x : FlowCell) (form : x ≡ encodeFlow (viewFlow x)) where
+  pub waiting-is : x .waiting ≡ length (viewFlow x .queue)
+  unfolding encodeFlow
+  waiting-is = ap (λ (c : FlowCell). c .waiting) form
+
+  pub sizes-are : x .sizes ≡ cells queueLimit (map pred (viewFlow x .queue))
+  unfolding encodeFlow
+  sizes-are = ap (λ (c : FlowCell). c .sizes) form
+
