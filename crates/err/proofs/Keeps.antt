@@ -235,8 +235,8 @@ module _ (s : Scheduler) (R : Rules s) where
   begun-keeps : (f : ℕ) (line : List ℕ) (visits mark running : ℕ) → LineRules (flowAt s) [] (f ∷ line) mark running (suc visits)
     → Rules
       (put s f
-      (served (turnOpened (roundOf (f ∷ line) (suc visits) mark running NoTurn) (flowAt s f)) (surplusCleared (flowAt s f)) f (allowance (flowAt s f .weight) mark (flowAt s f .surplus)) 0 .flow)
-      (served (turnOpened (roundOf (f ∷ line) (suc visits) mark running NoTurn) (flowAt s f)) (surplusCleared (flowAt s f)) f (allowance (flowAt s f .weight) mark (flowAt s f .surplus)) 0 .round))
+      (served (turnOpened (roundOf (f ∷ line) (suc visits) mark running NoTurn) f (allowance (flowAt s f .weight) mark (flowAt s f .surplus))) (surplusCleared (flowAt s f)) f (allowance (flowAt s f .weight) mark (flowAt s f .surplus)) 0 .flow)
+      (served (turnOpened (roundOf (f ∷ line) (suc visits) mark running NoTurn) f (allowance (flowAt s f .weight) mark (flowAt s f .surplus))) (surplusCleared (flowAt s f)) f (allowance (flowAt s f .weight) mark (flowAt s f .surplus)) 0 .round))
   unfolding turnOpened surplusCleared
   begun-keeps f line visits mark running L =
       in-turn-keeps r f (allowance (x .weight) mark (x .surplus)) 0 (x .weight) 0 (x .slot) (flowAt s′) (at-others s f (surplusCleared x) r) here
@@ -253,7 +253,7 @@ module _ (s : Scheduler) (R : Rules s) where
       x : Flow
       x = flowAt s f
       r : Round
-      r = turnOpened (roundOf (f ∷ line) (suc visits) mark running NoTurn) x
+      r = turnOpened (roundOf (f ∷ line) (suc visits) mark running NoTurn) f (allowance (x .weight) mark (x .surplus))
       s′ : Scheduler
       s′ = put s f (surplusCleared x) r
       stands : 1 ≤ activity x

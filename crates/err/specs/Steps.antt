@@ -42,16 +42,10 @@ roundStarted r =
 abbrev pub allowance : ℕ → ℕ → ℕ → ℕ
 allowance weight mark surplus = weight * (1 + mark) - surplus
 
--- The flow at the head leaves the line and opens a turn; its surplus then becomes 0.
-unfoldable pub turnOpened : Round → Flow → Round
-turnOpened r x =
-    record {
-      line = drop 1 (r .line);
-      visits = r .visits;
-      mark = r .mark;
-      running = r .running;
-      turn = Turn (getD (r .line) 0 0) (allowance (x .weight) (r .mark) (x .surplus)) 0;
-    }
+-- The flow f at the head leaves the line and opens a turn; its surplus then becomes 0.
+unfoldable pub turnOpened : Round → ℕ → ℕ → Round
+turnOpened r f allowed =
+    record { line = drop 1 (r .line); visits = r .visits; mark = r .mark; running = r .running; turn = Turn f allowed 0 }
 
 unfoldable pub surplusCleared : Flow → Flow
 surplusCleared x = record { weight = x .weight; surplus = 0; slot = x .slot; queue = x .queue }
@@ -119,12 +113,16 @@ served r x f allowed sent =
     (sent + firstSize x)
     (Departure (record { flow = f; size = firstSize x; mark = r .mark; allowance = allowed }))
 
+-- The allowance of the flow at the head, by the mark of the round in which its turn opens.
+abbrev pub headAllowance : Round → Flow → ℕ
+headAllowance r x = allowance (x .weight) (roundStarted r .mark) (x .surplus)
+
 -- Steps 2 to 6: idle where no turn is open and the line is empty; else the turn's flow is served, or the one at the head.
 unfoldable pub visitBy : Serving → List ℕ → Round → Flow → Visit
 visitBy (Turn f allowed sent) line r x = served r x f allowed sent
 visitBy NoTurn [] r x = record { round = r; flow = x; reply = Idle }
 visitBy NoTurn (f ∷ line) r x =
-    served (turnOpened (roundStarted r) x) (surplusCleared x) f (allowance (x .weight) (roundStarted r .mark) (x .surplus)) 0
+    served (turnOpened (roundStarted r) f (headAllowance r x)) (surplusCleared x) f (headAllowance r x) 0
 
 unfoldable pub visit : Round → Flow → Visit
 visit r x = visitBy (r .turn) (r .line) r x

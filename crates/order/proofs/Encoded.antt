@@ -5,11 +5,11 @@ use mathlib.Core.List.{List, [], _∷_, _++_, map, append-assoc}
 use native.Mathlib.Omega.{arith}
 use lib.ListN.{length, getD, set, take, drop, replicate, length-append, length-replicate, length-map, replicate-append-replicate}
 use lib.Seq.{take-append-seam, set-append-seam}
-use Rattle.err.specs.Limits.{queueLimit, flowLimit}
+use Rattle.err.specs.Limits.{queueLimit, flowLimit, markLimit}
 use Rattle.err.specs.Model.{Flow, Round, Scheduler}
 use Rattle.err.specs.Rules.{Sizes, none, one, FlowRules}
 use Rattle.order.specs.Encoding.{cells, encodeFlow, viewFlow, encodeRound, viewRound}
-use Rattle.order.specs.Premises.{FlowReady}
+use Rattle.order.specs.Premises.{FlowReady, RoundReady}
 use Rattle.order.specs.declared.FlowCell.{FlowCell}
 use Rattle.order.specs.declared.RoundCell.{RoundCell}
 
@@ -71,3 +71,23 @@ module _ (x : FlowCell) (form : x ≡ encodeFlow (viewFlow x)) where
   unfolding encodeFlow
   sizes-are = ap (λ (c : FlowCell). c .sizes) form
 
+
+-- What a round's cell has, by what it stands for.
+module _ (r : RoundCell) (form : r ≡ encodeRound (viewRound r)) where
+  pub line-is : r .line ≡ cells flowLimit (viewRound r .line)
+  unfolding encodeRound
+  line-is = ap (λ (c : RoundCell). c .line) form
+
+  pub length-is : r .length ≡ length (viewRound r .line)
+  unfolding encodeRound
+  length-is = ap (λ (c : RoundCell). c .length) form
+
+pub round-seen : (r : Round) → viewRound (encodeRound r) ≡ r
+unfolding viewRound encodeRound
+round-seen r =
+    ap (λ (l : List ℕ). record { line = l; visits = r .visits; mark = r .mark; running = r .running; turn = r .turn })
+    (cells-seen flowLimit (r .line))
+
+pub round-ready : (r : Round) → length (r .line) ≤ flowLimit → r .mark ≤ markLimit → r .running ≤ markLimit → RoundReady (encodeRound r)
+unfolding encodeRound
+round-ready r l m n = record { form = ap encodeRound (sym (round-seen r)); line-fits = l; mark-in-range = m; running-in-range = n }

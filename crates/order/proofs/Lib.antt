@@ -1,4 +1,6 @@
--- Laws that belong to no one function: Shifting (taking out the first byte, step by step), Encoded (lists in cells; a flow and a round, and back).
+-- Laws that belong to no one function: Shifting (taking out the first byte, step by step), Encoded (lists in cells, flows, rounds and states, and
+-- back), FlowLaws and RoundLaws (from what a function stores to what the model's step says).
 pub mod Shifting
 pub mod Encoded
 pub mod FlowLaws
+pub mod RoundLaws

@@ -8,6 +8,7 @@ use err::Serving;
 
 mod cells;
 mod flow;
+mod round;
 
 // One flow: the sizes of its waiting packets lie in the first cells, each less one so that 256 fits a byte.
 pub struct FlowCell {

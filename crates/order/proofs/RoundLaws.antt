@@ -1,0 +1,128 @@
+-- From what a function on the round stores to what the model's step says.
+use Prim.Native.Nat.{ℕ, zero, suc, _+_, _*_, _-_, _≤_, _<_}
+use mathlib.Core.Path.{_≡_, refl, sym, ap, _∙_, subst}
+use mathlib.Core.List.{List, [], _∷_, _++_}
+use mathlib.Core.Bool.{Bool, true, false}
+use native.Mathlib.Omega.{arith}
+use lib.ListN.{length, getD, set, drop, length-append, length-drop}
+use lib.Dec.{leb}
+use Rattle.err.specs.Limits.{flowLimit, markLimit}
+use Rattle.err.specs.Choose.{ifEmpty, ifZero}
+use Rattle.err.specs.Model.{Flow, Round}
+use Rattle.err.specs.Steps.{flowLined, roundStarted, turnOpened, turnEnds, turnKept, turnClosed, raised}
+use Rattle.err.specs.declared.Serving.{Serving}
+use Rattle.err.specs.declared.Serving.the-variants.{NoTurn, Turn}
+use Rattle.order.specs.Encoding.{cells, encodeRound, viewRound, viewFlow}
+use Rattle.order.specs.Premises.{FlowReady, RoundReady}
+use Rattle.order.specs.declared.FlowCell.{FlowCell}
+use Rattle.order.specs.declared.RoundCell.{RoundCell}
+use Rattle.order.proofs.Encoded.{cells-joined, cells-left, waiting-is, line-is, length-is}
+use Rattle.order.proofs.FlowLaws.{empty-by-count, waiting-by-count}
+
+-- Two rounds' cells with equal parts are equal.
+pub same-round : {l l′ : List ℕ} {n n′ v v′ m m′ k k′ : ℕ} {t t′ : Serving} → l ≡ l′ → n ≡ n′ → v ≡ v′ → m ≡ m′ → k ≡ k′ → t ≡ t′
+  → _≡_ {A = RoundCell} (record { line = l; length = n; visits = v; mark = m; running = k; turn = t })
+  (record { line = l′; length = n′; visits = v′; mark = m′; running = k′; turn = t′ })
+same-round a b c d e f = λ i. record { line = a i; length = b i; visits = c i; mark = d i; running = e i; turn = f i }
+
+-- Storing a flow number behind the last; taking the first out.
+flow-stored : (l c : List ℕ) (n f : ℕ) → c ≡ cells flowLimit l → n ≡ length l → n < flowLimit → set c n f ≡ cells flowLimit (l ++ (f ∷ []))
+flow-stored l c n f e k h = rw (e, k) (cells-joined flowLimit l f (omega arith))
+
+head-taken : (l c : List ℕ) → c ≡ cells flowLimit l → 0 < length l → length l ≤ flowLimit → drop 1 c ++ (0 ∷ []) ≡ cells flowLimit (drop 1 l)
+head-taken [] c e h b = absurd (omega arith)
+head-taken (f ∷ l) c e h b = rw e (cells-left flowLimit f l b)
+
+zero-chosen : {A : Type 0} (n : ℕ) (a b : A) → n ≡ 0 → ifZero n a b ≡ a
+zero-chosen zero a b e = refl
+zero-chosen (suc n) a b e = absurd (omega arith)
+
+pub positive-chosen : {A : Type 0} (n : ℕ) (a b : A) → (n ≡ 0 → ⊥) → ifZero n a b ≡ b
+positive-chosen zero a b d = absurd (d refl)
+positive-chosen (suc n) a b d = refl
+
+module _ (r : RoundCell) (h : RoundReady r) where
+  -- The round as it is seen, with other numbers.
+  pub renumbered : (v m k : ℕ) (t : Serving)
+    → record { line = r .line; length = r .length; visits = v; mark = m; running = k; turn = t }
+    ≡ encodeRound (record { line = viewRound r .line; visits = v; mark = m; running = k; turn = t })
+  unfolding encodeRound
+  renumbered v m k t = same-round (line-is r (h .form)) (length-is r (h .form)) refl refl refl refl
+
+  -- The same with a flow at the end of the line.
+  pub lengthened : (f v m k : ℕ) (t : Serving) → r .length < flowLimit
+    → record { line = set (r .line) (r .length) f; length = r .length + 1; visits = v; mark = m; running = k; turn = t }
+    ≡ encodeRound (record { line = viewRound r .line ++ (f ∷ []); visits = v; mark = m; running = k; turn = t })
+  unfolding encodeRound
+  lengthened f v m k t b =
+      same-round
+      (flow-stored (viewRound r .line) (r .line) (r .length) f (line-is r (h .form)) (length-is r (h .form)) b)
+      (omega (arith, length-is r (h .form), length-append (viewRound r .line) (f ∷ [])))
+      refl refl refl refl
+
+  pub started-law : r .visits ≡ 0
+    → record { line = r .line; length = r .length; visits = r .length; mark = r .running; running = 0; turn = r .turn }
+    ≡ encodeRound (roundStarted (viewRound r))
+  unfolding roundStarted encodeRound viewRound
+  started-law e =
+      same-round (line-is r (h .form)) (length-is r (h .form))
+      (length-is r (h .form) ∙ sym (zero-chosen (r .visits) (length (viewRound r .line)) (r .visits) e))
+      (sym (zero-chosen (r .visits) (r .running) (r .mark) e))
+      (sym (zero-chosen (r .visits) 0 (r .running) e))
+      refl
+
+  pub going-on-law : (r .visits ≡ 0 → ⊥) → r ≡ encodeRound (roundStarted (viewRound r))
+  unfolding roundStarted encodeRound viewRound
+  going-on-law d =
+      same-round (line-is r (h .form)) (length-is r (h .form))
+      (sym (positive-chosen (r .visits) (length (viewRound r .line)) (r .visits) d))
+      (sym (positive-chosen (r .visits) (r .running) (r .mark) d))
+      (sym (positive-chosen (r .visits) 0 (r .running) d))
+      refl
+
+  pub opened-law : (f allowed : ℕ) (line : List ℕ) → 0 < r .length → line ≡ drop 1 (r .line) ++ (0 ∷ [])
+    → record { line = line; length = r .length - 1; visits = r .visits; mark = r .mark; running = r .running; turn = Turn f allowed 0 }
+    ≡ encodeRound (turnOpened (viewRound r) f allowed)
+  unfolding turnOpened encodeRound viewRound
+  opened-law f allowed line b e =
+      same-round
+      (e ∙ head-taken (viewRound r .line) (r .line) (line-is r (h .form)) (omega (arith, length-is r (h .form))) (omega (arith, length-is r (h .form), h .line-fits)))
+      (ap (λ (n : ℕ). n - 1) (length-is r (h .form)) ∙ sym (length-drop 1 (viewRound r .line)))
+      refl refl refl refl
+
+  pub kept-law : (f allowed sent : ℕ)
+    → record { line = r .line; length = r .length; visits = r .visits; mark = r .mark; running = r .running; turn = Turn f allowed sent }
+    ≡ encodeRound (turnKept (viewRound r) f allowed sent)
+  unfolding turnKept viewRound
+  kept-law f allowed sent = renumbered (r .visits) (r .mark) (r .running) (Turn f allowed sent)
+
+  module _ (x : FlowCell) (ready : FlowReady x) where
+    pub lined-law : (f : ℕ) → x .waiting ≡ 0 → r .length < flowLimit
+      → record { line = set (r .line) (r .length) f; length = r .length + 1; visits = r .visits; mark = r .mark; running = r .running; turn = r .turn }
+      ≡ encodeRound (flowLined (viewRound r) f (viewFlow x))
+    unfolding flowLined viewRound
+    lined-law f e b =
+        rw (empty-by-count (viewFlow x .queue) (viewRound r .line ++ (f ∷ [])) (viewRound r .line) (sym (waiting-is x (ready .form)) ∙ e))
+        (lengthened f (r .visits) (r .mark) (r .running) (r .turn) b)
+
+    pub in-place-law : (f : ℕ) → (x .waiting ≡ 0 → ⊥) → r ≡ encodeRound (flowLined (viewRound r) f (viewFlow x))
+    unfolding flowLined viewRound
+    in-place-law f d =
+        rw (waiting-by-count (viewFlow x .queue) (viewRound r .line ++ (f ∷ [])) (viewRound r .line) (λ e. d (waiting-is x (ready .form) ∙ e)))
+        (renumbered (r .visits) (r .mark) (r .running) (r .turn))
+
+    pub emptied-law : (f allowed sent running : ℕ) → running ≡ raised (r .running) (x .weight) allowed sent → x .waiting ≡ 0
+      → record { line = r .line; length = r .length; visits = r .visits - 1; mark = r .mark; running = running; turn = NoTurn }
+      ≡ encodeRound (turnClosed (viewRound r) (viewFlow x) f allowed sent)
+    unfolding turnClosed viewRound viewFlow
+    emptied-law f allowed sent running m e =
+        rw (m, empty-by-count (viewFlow x .queue) (viewRound r .line) (viewRound r .line ++ (f ∷ [])) (sym (waiting-is x (ready .form)) ∙ e))
+        (renumbered (r .visits - 1) (r .mark) (raised (r .running) (x .weight) allowed sent) NoTurn)
+
+    pub rejoined-law : (f allowed sent running : ℕ) → running ≡ raised (r .running) (x .weight) allowed sent → (x .waiting ≡ 0 → ⊥) → r .length < flowLimit
+      → record { line = set (r .line) (r .length) f; length = r .length + 1; visits = r .visits - 1; mark = r .mark; running = running; turn = NoTurn }
+      ≡ encodeRound (turnClosed (viewRound r) (viewFlow x) f allowed sent)
+    unfolding turnClosed viewRound viewFlow
+    rejoined-law f allowed sent running m d b =
+        rw (m, waiting-by-count (viewFlow x .queue) (viewRound r .line) (viewRound r .line ++ (f ∷ [])) (λ e. d (waiting-is x (ready .form) ∙ e)))
+        (lengthened f (r .visits - 1) (r .mark) (raised (r .running) (x .weight) allowed sent) NoTurn b)
