@@ -4,3 +4,5 @@ pub mod Shifting
 pub mod Encoded
 pub mod FlowLaws
 pub mod RoundLaws
+pub mod TurnLaws
+pub mod BeginLaws

@@ -11,6 +11,7 @@ use Rattle.err.specs.Steps.{Visit}
 use Rattle.order.specs.declared.FlowCell.{FlowCell}
 use Rattle.order.specs.declared.RoundCell.{RoundCell}
 use Rattle.order.specs.declared.State.{State}
+use Rattle.order.specs.declared.Visited.{Visited}
 
 -- A list of bytes in n cells.
 unfoldable pub cells : ℕ → List ℕ → List ℕ
@@ -43,6 +44,9 @@ encodeRound r =
 unfoldable pub viewRound : RoundCell → Round
 viewRound c =
     record { line = take (c .length) (c .line); visits = c .visits; mark = c .mark; running = c .running; turn = c .turn }
+
+unfoldable pub encodeVisit : Visit → Visited
+encodeVisit v = record { round = encodeRound (v .round); flow = encodeFlow (v .flow); reply = v .reply }
 
 unfoldable pub encode : Scheduler → State
 encode s = record { flows = map encodeFlow (s .flows); round = encodeRound (s .round) }

@@ -1,8 +1,10 @@
 -- What the private functions may count on; every public call shows it from `Sound`.
-use Prim.Native.Nat.{ℕ, _≤_, _<_}
+use Prim.Native.Nat.{ℕ, _*_, _≤_, _<_}
 use mathlib.Core.Path.{_≡_}
-use Rattle.err.specs.Limits.{sizeLimit, queueLimit, flowLimit, markLimit}
+use Rattle.err.specs.Limits.{sizeLimit, queueLimit, flowLimit, markLimit, allowanceLimit}
 use Rattle.err.specs.Rules.{FlowRules}
+use Rattle.err.specs.Steps.{roundStarted}
+use Rattle.err.specs.declared.Serving.the-variants.{NoTurn, Turn}
 use Rattle.order.specs.Encoding.{encodeFlow, viewFlow, encodeRound, viewRound}
 use Rattle.order.specs.declared.FlowCell.{FlowCell}
 use Rattle.order.specs.declared.RoundCell.{RoundCell}
@@ -32,3 +34,28 @@ pub record RoundReady (r : RoundCell) : Type 0 where
   pub line-fits : r .length ≤ flowLimit
   pub mark-in-range : r .mark ≤ markLimit
   pub running-in-range : r .running ≤ markLimit
+
+-- A turn of the flow is open in which more may be sent.
+pub record MayServe (r : RoundCell) (x : FlowCell) (allowed sent : ℕ) : Type 0 where
+  pub round-ready : RoundReady r
+  pub has-first : HasFirst x
+  pub weighs : 1 ≤ x .weight
+  pub no-surplus : x .surplus ≡ 0
+  pub line-has-room : r .length < flowLimit
+  pub a-visit-left : 1 ≤ r .visits
+  pub allowed-in-range : allowed ≤ allowanceLimit
+  pub more-may-be-sent : sent < allowed
+
+-- The flow is at the head of the line, and owes no more than the mark of the round in which its turn opens covers.
+pub record MayBegin (r : RoundCell) (x : FlowCell) : Type 0 where
+  pub round-ready : RoundReady r
+  pub some-in-line : 0 < r .length
+  pub has-first : HasFirst x
+  pub weighs : 1 ≤ x .weight
+  pub owed : x .surplus ≤ x .weight * roundStarted (viewRound r) .mark
+
+pub record MayVisit (r : RoundCell) (x : FlowCell) : Type 0 where
+  pub round-ready : RoundReady r
+  pub flow-form : x ≡ encodeFlow (viewFlow x)
+  pub in-turn : (f allowed sent : ℕ) → r .turn ≡ Turn f allowed sent → MayServe r x allowed sent
+  pub at-head : r .turn ≡ NoTurn → (r .length ≡ 0 → ⊥) → MayBegin r x

@@ -9,6 +9,7 @@ use err::Serving;
 mod cells;
 mod flow;
 mod round;
+mod turn;
 
 // One flow: the sizes of its waiting packets lie in the first cells, each less one so that 256 fits a byte.
 pub struct FlowCell {

@@ -1,0 +1,104 @@
+-- From what serving a flow makes of its parts to what the model's steps 2 to 6 say.
+use Prim.Native.Nat.{ℕ, zero, suc, _+_, _*_, _-_, _≤_, _<_}
+use mathlib.Core.Path.{_≡_, refl, sym, ap, _∙_, subst}
+use mathlib.Core.List.{List, [], _∷_, _++_}
+use mathlib.Core.Bool.{Bool, true, false}
+use native.Mathlib.Omega.{arith}
+use lib.ListN.{length, getD, drop, length-drop}
+use lib.Dec.{leb}
+use borrow.Author.Tests.{leb-true}
+use Rattle.err.specs.Limits.{flowLimit, markLimit, sizeLimit, allowanceLimit}
+use Rattle.err.specs.Model.{Flow, Round}
+use Rattle.err.specs.Rules.{FlowRules}
+use Rattle.err.specs.Steps.{Visit, roundStarted, allowance, turnOpened, surplusCleared, firstSize, firstLeft, turnEnds, turnKept, turnClosed, excessKept, settled, served, visitBy, visit, whose}
+use Rattle.err.specs.declared.Reply.{Reply}
+use Rattle.err.specs.declared.Reply.the-variants.{Departure, Idle}
+use Rattle.err.specs.declared.Serving.{Serving}
+use Rattle.err.specs.declared.Serving.the-variants.{NoTurn, Turn}
+use Rattle.err.proofs.Flows.{left-flow-rules, cleared-flow-rules}
+use Rattle.order.specs.Encoding.{cells, encodeFlow, encodeRound, encodeVisit, viewRound, viewFlow}
+use Rattle.order.specs.Premises.{FlowReady, RoundReady, HasFirst, MayServe, MayBegin, MayVisit}
+use Rattle.order.specs.declared.FlowCell.{FlowCell}
+use Rattle.order.specs.declared.RoundCell.{RoundCell}
+use Rattle.order.specs.declared.Visited.{Visited}
+use Rattle.order.proofs.Encoded.{flow-seen, flow-ready, round-seen, round-ready, waiting-is, line-is, length-is}
+use Rattle.order.proofs.FlowLaws.{first-size-small}
+
+-- A flow without surplus keeps its rules when its first packet leaves.
+left-rules-parts : (w k : ℕ) (q : List ℕ) → FlowRules (record { weight = w; surplus = 0; slot = k; queue = q }) → 0 < length q
+  → FlowRules (firstLeft (record { weight = w; surplus = 0; slot = k; queue = q }))
+unfolding firstLeft
+left-rules-parts w k [] R h = absurd (omega arith)
+left-rules-parts w k (p ∷ q) R h = left-flow-rules w 0 k p q 0 R (omega arith) (λ e. refl)
+
+left-rules : (x : Flow) → FlowRules x → x .surplus ≡ 0 → 0 < length (x .queue) → FlowRules (firstLeft x)
+left-rules x R z h =
+    let e : x ≡ record { weight = x .weight; surplus = 0; slot = x .slot; queue = x .queue } =
+      ap (λ (σ : ℕ). record { weight = x .weight; surplus = σ; slot = x .slot; queue = x .queue }) z in
+    subst (λ (y : Flow). FlowRules (firstLeft y)) (sym e) (left-rules-parts (x .weight) (x .slot) (x .queue) (subst FlowRules e R) h)
+
+-- With packets left, a turn ends only by the allowance.
+ends-by-allowance : (q : List ℕ) (allowed sent : ℕ) → 0 < length q → turnEnds allowed sent q ≡ true → allowed ≤ sent
+ends-by-allowance [] allowed sent h e = absurd (omega arith)
+ends-by-allowance (p ∷ q) allowed sent h e = leb-true allowed sent e
+
+-- Two visits with equal parts are equal.
+pub same-visit : {r r′ : RoundCell} {x x′ : FlowCell} {d d′ : Reply} → r ≡ r′ → x ≡ x′ → d ≡ d′
+  → _≡_ {A = Visited} (record { round = r; flow = x; reply = d }) (record { round = r′; flow = x′; reply = d′ })
+same-visit a b c = λ i. record { round = a i; flow = b i; reply = c i }
+
+-- A departure as the code makes it, and as the model tells it.
+abbrev departure : ℕ → ℕ → ℕ → ℕ → Reply
+departure f size mark allowed = Departure (record { flow = f; size = size; mark = mark; allowance = allowed })
+
+module _ (r : RoundCell) (x : FlowCell) (allowed sent : ℕ) (h : MayServe r x allowed sent) where
+  left-rules-here : FlowRules (firstLeft (viewFlow x))
+  unfolding viewFlow
+  left-rules-here =
+      left-rules (viewFlow x) (h .has-first .rules) (h .no-surplus) (omega (arith, waiting-is x (h .has-first .form), h .has-first .waits))
+
+  pub sent-small : (size : ℕ) → size ≡ firstSize (viewFlow x) → sent + size < allowanceLimit + sizeLimit
+  sent-small size e = omega (arith, first-size-small x (h .has-first), h .allowed-in-range, h .more-may-be-sent)
+
+  module _ (left : FlowCell) (e : left ≡ encodeFlow (firstLeft (viewFlow x))) where
+    -- What is left is again a flow of a sound state.
+    pub left-ready : FlowReady left
+    left-ready = subst FlowReady (sym e) (flow-ready (firstLeft (viewFlow x)) left-rules-here)
+
+    left-seen : viewFlow left ≡ firstLeft (viewFlow x)
+    left-seen = ap viewFlow e ∙ flow-seen (firstLeft (viewFlow x)) (left-rules-here .sizes-in-range)
+
+    pub left-weighs : 1 ≤ left .weight
+    unfolding encodeFlow firstLeft viewFlow
+    left-weighs = rw e (h .weighs)
+
+    pub excess-fits : (size : ℕ) → size ≡ firstSize (viewFlow x) → turnEnds allowed (sent + size) (viewFlow left .queue) ≡ true
+      → 0 < left .waiting → (allowed ≤ sent + size) × (sent + size - allowed < sizeLimit)
+    excess-fits size s ends some =
+        let enough : allowed ≤ sent + size =
+          ends-by-allowance (viewFlow left .queue) allowed (sent + size) (omega (arith, waiting-is left (left-ready .form))) ends in
+        (enough, omega (arith, first-size-small x (h .has-first), h .more-may-be-sent))
+
+    module _ (f size : ℕ) (s : size ≡ firstSize (viewFlow x)) where
+      ends-seen : turnEnds allowed (sent + size) (viewFlow left .queue) ≡ turnEnds allowed (sent + firstSize (viewFlow x)) (drop 1 (viewFlow x .queue))
+      unfolding firstLeft
+      ends-seen = rw (left-seen, s)
+
+      pub closed-law : (round : RoundCell) (flow : FlowCell) → turnEnds allowed (sent + size) (viewFlow left .queue) ≡ true
+        → round ≡ encodeRound (turnClosed (viewRound r) (viewFlow left) f allowed (sent + size))
+        → flow ≡ encodeFlow (excessKept (viewFlow left) allowed (sent + size))
+        → record { round = round; flow = flow; reply = departure f size (r .mark) allowed }
+        ≡ encodeVisit (served (viewRound r) (viewFlow x) f allowed sent)
+      unfolding served settled encodeVisit viewRound
+      closed-law round flow ends a b =
+          rw (sym ends-seen ∙ ends)
+          (same-visit (a ∙ rw (left-seen, s)) (b ∙ rw (left-seen, s)) (ap (λ (n : ℕ). departure f n (r .mark) allowed) s))
+
+      pub open-law : (round : RoundCell) → turnEnds allowed (sent + size) (viewFlow left .queue) ≡ false
+        → round ≡ encodeRound (turnKept (viewRound r) f allowed (sent + size))
+        → record { round = round; flow = left; reply = departure f size (r .mark) allowed }
+        ≡ encodeVisit (served (viewRound r) (viewFlow x) f allowed sent)
+      unfolding served settled encodeVisit viewRound
+      open-law round ends a =
+          rw (sym ends-seen ∙ ends)
+          (same-visit (a ∙ rw s) e (ap (λ (n : ℕ). departure f n (r .mark) allowed) s))

@@ -1,0 +1,38 @@
+-- The flow of the turn, or the first cell of the line.
+use borrow.Author.Needs.{needs}
+use Rattle.order.proofs.BeginLaws.{whose-turn, whose-head}
+use Rattle.order.proofs.turn.whose.Statement.{statement}
+use Rattle.order.proofs.turn.whose.Tie as tie
+
+enum-known-turn : tie.Need-enum-known-turn
+enum-known-turn c = search needs
+
+cast-result : tie.Need-cast-result
+cast-result c = search needs
+
+enum-told : tie.Need-enum-told
+enum-told c = search needs
+
+array-read-result : tie.Need-array-read-result
+array-read-result c = search needs
+
+cast-result-2 : tie.Need-cast-result-2
+cast-result-2 c = search needs
+
+returns : tie.Need-returns
+returns c = whose-turn (c .before .before .before .before .args .r) (c .before .turn .given .0 .0) (c .before .turn .given .0 .1 .0) (c .before .turn .given .0 .1 .1 .0) (c .before .turn .given .1)
+
+returns-2 : tie.Need-returns-2
+returns-2 c = whose-head (c .before .before .before .args .r) (c .before .before .before .pre .form) (c .enum-told .given .1)
+
+pub whose-spec : {M : Type 1} → statement M
+whose-spec =
+    tie.close
+    (tie.spec
+    enum-known-turn
+    cast-result
+    enum-told
+    array-read-result
+    cast-result-2
+    returns
+    returns-2)
