@@ -6,3 +6,4 @@ pub mod FlowLaws
 pub mod RoundLaws
 pub mod TurnLaws
 pub mod BeginLaws
+pub mod AskLaws

@@ -33,7 +33,7 @@ head-taken : (l c : List ℕ) → c ≡ cells flowLimit l → 0 < length l → l
 head-taken [] c e h b = absurd (omega arith)
 head-taken (f ∷ l) c e h b = rw e (cells-left flowLimit f l b)
 
-zero-chosen : {A : Type 0} (n : ℕ) (a b : A) → n ≡ 0 → ifZero n a b ≡ a
+pub zero-chosen : {A : Type 0} (n : ℕ) (a b : A) → n ≡ 0 → ifZero n a b ≡ a
 zero-chosen zero a b e = refl
 zero-chosen (suc n) a b e = absurd (omega arith)
 

@@ -1,11 +1,14 @@
--- What the private functions may count on; every public call shows it from `Sound`.
+-- What the private functions may count on, which every public call shows from `Sound`; and what open and offer make of the two parts they concern.
 use Prim.Native.Nat.{ℕ, _*_, _≤_, _<_}
 use mathlib.Core.Path.{_≡_}
 use Rattle.err.specs.Limits.{sizeLimit, queueLimit, flowLimit, markLimit, allowanceLimit}
 use Rattle.err.specs.Rules.{FlowRules}
-use Rattle.err.specs.Steps.{roundStarted}
+use Rattle.err.specs.Choose.{ifZero}
+use Rattle.err.specs.Calls.{openRefusal, offerRefusal, openFlow, answerOf}
+use Rattle.err.specs.Steps.{roundStarted, packetJoined, flowLined}
 use Rattle.err.specs.declared.Serving.the-variants.{NoTurn, Turn}
 use Rattle.order.specs.Encoding.{encodeFlow, viewFlow, encodeRound, viewRound}
+use Rattle.order.specs.declared.Asked.{Asked}
 use Rattle.order.specs.declared.FlowCell.{FlowCell}
 use Rattle.order.specs.declared.RoundCell.{RoundCell}
 
@@ -59,3 +62,19 @@ pub record MayVisit (r : RoundCell) (x : FlowCell) : Type 0 where
   pub flow-form : x ≡ encodeFlow (viewFlow x)
   pub in-turn : (f allowed sent : ℕ) → r .turn ≡ Turn f allowed sent → MayServe r x allowed sent
   pub at-head : r .turn ≡ NoTurn → (r .length ≡ 0 → ⊥) → MayBegin r x
+
+unfoldable pub openedParts : RoundCell → FlowCell → ℕ → ℕ → Asked
+openedParts r x f weight =
+    record {
+      round = r;
+      flow = encodeFlow (ifZero (openRefusal f weight (viewFlow x)) (openFlow weight) (viewFlow x));
+      answer = answerOf (openRefusal f weight (viewFlow x))
+    }
+
+unfoldable pub offeredParts : RoundCell → FlowCell → ℕ → ℕ → Asked
+offeredParts r x f size =
+    record {
+      round = encodeRound (ifZero (offerRefusal f size (viewFlow x)) (flowLined (viewRound r) f (viewFlow x)) (viewRound r));
+      flow = encodeFlow (ifZero (offerRefusal f size (viewFlow x)) (packetJoined (viewFlow x) size) (viewFlow x));
+      answer = answerOf (offerRefusal f size (viewFlow x))
+    }

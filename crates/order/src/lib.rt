@@ -6,6 +6,7 @@ use err::Count;
 use err::Reply;
 use err::Serving;
 
+mod ask;
 mod cells;
 mod flow;
 mod round;
@@ -41,4 +42,11 @@ pub struct Visited {
     pub round: RoundCell,
     pub flow: FlowCell,
     pub reply: Reply,
+}
+
+// What open and offer make of the round and of the flow that they concern, with their answer.
+pub struct Asked {
+    pub round: RoundCell,
+    pub flow: FlowCell,
+    pub answer: Answer,
 }
