@@ -31,7 +31,7 @@ abbrev flowOf : ℕ → ℕ → ℕ → List ℕ → Flow
 flowOf w σ k q = record { weight = w; surplus = σ; slot = k; queue = q }
 
 -- An open flow with a packet waiting weighs something.
-weighs : (x : Flow) → FlowRules x → (x .queue ≡ [] → ⊥) → 1 ≤ x .weight
+pub weighs : (x : Flow) → FlowRules x → (x .queue ≡ [] → ⊥) → 1 ≤ x .weight
 weighs x R waits = go (x .weight) refl
   where
     go : (w : ℕ) → x .weight ≡ w → 1 ≤ w
@@ -201,7 +201,7 @@ abbrev roundOf : List ℕ → ℕ → ℕ → ℕ → Serving → Round
 roundOf line visits mark running turn = record { line = line; visits = visits; mark = mark; running = running; turn = turn }
 
 -- A flow that stands is active: it has a packet waiting.
-standing-waits : (x : Flow) → 1 ≤ activity x → x .queue ≡ [] → ⊥
+pub standing-waits : (x : Flow) → 1 ≤ activity x → x .queue ≡ [] → ⊥
 standing-waits x h e = absurd (omega (arith, ap (λ (q : List ℕ). ifEmpty {A = ℕ} q 0 1) e))
 
 module _ (s : Scheduler) (R : Rules s) where

@@ -5,3 +5,4 @@ pub mod Line
 pub mod Flows
 pub mod Refusals
 pub mod Keeps
+pub mod Standing

@@ -26,7 +26,7 @@ everywhere P f flow flow′ only here there g =
       | no q ↦ subst (λ (x : Flow). P g x) (sym (only g q)) (there g q)
     ]
 
-activity-at-most-one : (x : Flow) → activity x ≤ 1
+pub activity-at-most-one : (x : Flow) → activity x ≤ 1
 activity-at-most-one x = go (x .queue)
   where
     go : (q : List ℕ) → ifEmpty q 0 1 ≤ 1

@@ -7,3 +7,4 @@ pub mod RoundLaws
 pub mod TurnLaws
 pub mod BeginLaws
 pub mod AskLaws
+pub mod StateLaws

@@ -2,3 +2,4 @@
 -- Encoding is what a reader believes beside the model; Premises serves the crate's private functions alone.
 pub mod Encoding
 pub mod Premises
+pub mod Promised

@@ -1,5 +1,6 @@
 // The calls on packet sizes: document 01's order layer. Each takes the scheduler's state and hands it back beside its reply.
-ghost use mathlib.Core.Path.{_≡_};
+ghost use Rattle.order.specs.Encoding.{Sound};
+ghost use Rattle.order.specs.Promised.{GivesNew, OpenGives, OfferGives, DepartGives, BurstGives};
 
 use err::Answer;
 use err::Count;
@@ -49,4 +50,81 @@ pub struct Asked {
     pub round: RoundCell,
     pub flow: FlowCell,
     pub answer: Answer,
+}
+
+// The replies, each with the state handed back beside it.
+pub struct Answered {
+    pub state: State,
+    pub answer: Answer,
+}
+
+pub struct Departed {
+    pub state: State,
+    pub reply: Reply,
+}
+
+pub struct Counted {
+    pub state: State,
+    pub count: Count,
+}
+
+impl State {
+    pub fn new() -> State
+        ensures { λ r. ⌜ GivesNew r ⌝ }
+    {
+        let closed = FlowCell { weight: 0, surplus: 0, slot: 0, waiting: 0, sizes: [0u8; 8] };
+        let round = RoundCell { line: [0u8; 32], length: 0, visits: 0, mark: 0, running: 0, turn: Serving::NoTurn };
+        State { flows: [closed; 32], round: round }
+    }
+
+    pub fn reset(self) -> State
+        ensures { λ r. ⌜ GivesNew r ⌝ }
+    {
+        State::new()
+    }
+
+    pub fn open(self, f: usize, weight: usize) -> Answered
+        requires { ⌜ Sound self ⌝ }
+        ensures { λ r. ⌜ OpenGives self f weight r ⌝ }
+    {
+        let mut flows = self.flows;
+        let round = self.round;
+        let at = ask::place(f);
+        let asked = ask::opened(round, flows[at], f, weight);
+        let flow = asked.flow;
+        flows[at] = flow;
+        let after = asked.round;
+        let answer = asked.answer;
+        Answered { state: State { flows: flows, round: after }, answer: answer }
+    }
+
+    pub fn offer(self, f: usize, size: usize) -> Answered
+        requires { ⌜ Sound self ⌝ }
+        ensures { λ r. ⌜ OfferGives self f size r ⌝ }
+    {
+        let mut flows = self.flows;
+        let round = self.round;
+        let at = ask::place(f);
+        let asked = ask::offered(round, flows[at], f, size);
+        let flow = asked.flow;
+        flows[at] = flow;
+        let after = asked.round;
+        let answer = asked.answer;
+        Answered { state: State { flows: flows, round: after }, answer: answer }
+    }
+
+    pub fn depart(self) -> Departed
+        requires { ⌜ Sound self ⌝ }
+        ensures { λ r. ⌜ DepartGives self r ⌝ }
+    {
+        let mut flows = self.flows;
+        let round = self.round;
+        let at = turn::whose(round);
+        let visited = turn::visit(round, flows[at]);
+        let flow = visited.flow;
+        flows[at] = flow;
+        let after = visited.round;
+        let reply = visited.reply;
+        Departed { state: State { flows: flows, round: after }, reply: reply }
+    }
 }

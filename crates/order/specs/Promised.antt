@@ -1,0 +1,47 @@
+-- What each public call promises: its reply and the state that it gives back are those of the model's call on the scheduler that the state stands for,
+-- and the state meets the premise of the next call.
+use Prim.Native.Nat.{ℕ}
+use mathlib.Core.Path.{_≡_}
+use mathlib.Core.List.{List}
+use Rattle.err.specs.Model.{Scheduler, newScheduler}
+use Rattle.err.specs.Calls.{Outcome, Burst, opened, offered, departed, burst}
+use Rattle.err.specs.declared.Answer.{Answer}
+use Rattle.err.specs.declared.Reply.{Reply}
+use Rattle.order.specs.Encoding.{encode, view, Sound}
+use Rattle.order.specs.declared.State.{State}
+use Rattle.order.specs.declared.Answered.{Answered}
+use Rattle.order.specs.declared.Departed.{Departed}
+use Rattle.order.specs.declared.Counted.{Counted}
+
+-- An outcome of the model, as code gives it.
+unfoldable pub answeredAs : Outcome Answer → Answered
+answeredAs o = record { state = encode (o .state); answer = o .reply }
+
+unfoldable pub departedAs : Outcome Reply → Departed
+departedAs o = record { state = encode (o .state); reply = o .reply }
+
+unfoldable pub countedAs : Burst → Counted
+countedAs b = record { state = encode (b .state); count = b .reply }
+
+-- New and reset.
+pub record GivesNew (r : State) : Type 0 where
+  pub outcome : r ≡ encode newScheduler
+  pub sound : Sound r
+
+pub record OpenGives (s : State) (f weight : ℕ) (r : Answered) : Type 0 where
+  pub outcome : r ≡ answeredAs (opened (view s) f weight)
+  pub sound : Sound (r .state)
+
+pub record OfferGives (s : State) (f size : ℕ) (r : Answered) : Type 0 where
+  pub outcome : r ≡ answeredAs (offered (view s) f size)
+  pub sound : Sound (r .state)
+
+pub record DepartGives (s : State) (r : Departed) : Type 0 where
+  pub outcome : r ≡ departedAs (departed (view s))
+  pub sound : Sound (r .state)
+
+-- `before` and `list` are the lent list at entry and at exit.
+pub record BurstGives (s : State) (n : ℕ) (before list : List ℕ) (r : Counted) : Type 0 where
+  pub outcome : r ≡ countedAs (burst (view s) n before)
+  pub written : list ≡ burst (view s) n before .list
+  pub sound : Sound (r .state)
