@@ -8,3 +8,4 @@ pub mod TurnLaws
 pub mod BeginLaws
 pub mod AskLaws
 pub mod StateLaws
+pub mod BurstLaws

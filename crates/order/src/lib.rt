@@ -4,6 +4,7 @@ ghost use Rattle.order.specs.Promised.{GivesNew, OpenGives, OfferGives, 
 
 use err::Answer;
 use err::Count;
+use err::LIST_SHORT;
 use err::Reply;
 use err::Serving;
 
@@ -126,5 +127,33 @@ impl State {
         let after = visited.round;
         let reply = visited.reply;
         Departed { state: State { flows: flows, round: after }, reply: reply }
+    }
+
+    // Up to n departures, whose flow numbers go into the list from its start.
+    pub fn burst(self, n: usize, list: &mut [u8]) -> Counted
+        requires { ⌜ Sound self ⌝ }
+        ensures { λ r. ⌜ BurstGives self n (now (list .entry)) (now (list .exit)) r ⌝ }
+    {
+        if list.len() < n {
+            return Counted { state: self, count: Count::Refused(LIST_SHORT) };
+        }
+        let mut flows = self.flows;
+        let mut round = self.round;
+        let mut made = 0;
+        while made < n {
+            let at = turn::whose(round);
+            let visited = turn::visit(round, flows[at]);
+            let flow = visited.flow;
+            flows[at] = flow;
+            let after = visited.round;
+            round = after;
+            let reply = visited.reply;
+            let Reply::Departure(sent) = reply else {
+                return Counted { state: State { flows: flows, round: round }, count: Count::Made(made) };
+            };
+            list[made] = sent.flow;
+            made += 1;
+        }
+        Counted { state: State { flows: flows, round: round }, count: Count::Made(made) }
     }
 }
