@@ -55,7 +55,7 @@ unfolding sumBelow
 sum-of-one zero f b = absurd (omega arith)
 sum-of-one (suc n) f b =
     elim (ℕ-discrete n f) [
-      yes q ↦ omega (arith, ap (λ (t : Bool). cond {A = ℕ} t 1 0) (eq-eqb n f q), sum-nothing n (λ k. cond (eqb k f) 1 0) (λ k c. ap (λ (t : Bool). cond {A = ℕ} t 1 0) (ne-eqb k f (λ e. omega arith))))
+      | yes q ↦ omega (arith, ap (λ (t : Bool). cond {A = ℕ} t 1 0) (eq-eqb n f q), sum-nothing n (λ k. cond (eqb k f) 1 0) (λ k c. ap (λ (t : Bool). cond {A = ℕ} t 1 0) (ne-eqb k f (λ e. omega arith))))
       | no q ↦ omega (arith, ap (λ (t : Bool). cond {A = ℕ} t 1 0) (ne-eqb n f q), sum-of-one n f (omega arith))
     ]
 
@@ -69,7 +69,7 @@ unfolding sumBelow
 sum-of-fewer zero g f h b z = absurd (omega arith)
 sum-of-fewer (suc n) g f h b z =
     elim (ℕ-discrete n f) [
-      yes q ↦ omega (arith, ap g q, sum-of-few n g h)
+      | yes q ↦ omega (arith, ap g q, sum-of-few n g h)
       | no q ↦ omega (arith, h n, sum-of-fewer n g f h (omega arith) z)
     ]
 
@@ -79,7 +79,7 @@ unfolding count
 length-is-sum n [] h = sym (sum-nothing n (λ k. 0) (λ k b. refl))
 length-is-sum n (f ∷ l) h =
     elim (decLt f n) [
-      yes b ↦ omega (arith, length-is-sum n l (λ k c. omega (arith, h k c)), sum-adds n (λ k. cond (eqb k f) 1 0) (λ k. count k l), sum-of-one n f b)
+      | yes b ↦ omega (arith, length-is-sum n l (λ k c. omega (arith, h k c)), sum-adds n (λ k. cond (eqb k f) 1 0) (λ k. count k l), sum-of-one n f b)
       | no b ↦ absurd (omega (arith, h f (omega arith), count-head f l))
     ]
 

@@ -29,7 +29,7 @@ put-back s f = ap (λ (l : List Flow). record { flows = l; round = s .round }) (
 pub waiting-in-reach : (s : Scheduler) (f : ℕ) → length (s .flows) ≡ flowLimit → (flowAt s f .queue ≡ [] → ⊥) → f < flowLimit
 waiting-in-reach s f e h =
     elim (decLt f flowLimit) [
-      yes b ↦ b
+      | yes b ↦ b
       | no b ↦ absurd (h (ap (λ (x : Flow). x .queue) (List·getD-eq-default (s .flows) closedFlow {n = f} (omega arith))))
     ]
 
@@ -38,16 +38,16 @@ pub beyond-not-active : (s : Scheduler) → length (s .flows) ≡ flowLimit → 
 beyond-not-active s e g h = ap activity (List·getD-eq-default (s .flows) closedFlow {n = g} (omega arith))
 
 pub rules-put : (s : Scheduler) (f : ℕ) (x : Flow) (r : Round) → Rules s → f < flowLimit → FlowRules x
-  → RoundRules (flowAt (put s f x r)) r (r .turn) → Rules (put s f x r)
+    → RoundRules (flowAt (put s f x r)) r (r .turn) → Rules (put s f x r)
 unfolding put
 rules-put s f x r R b X T =
     record {
       all-flows = length-set (s .flows) f x ∙ R .all-flows;
       flow-rules =
-        everywhere (λ g y. FlowRules y) f (flowAt s) (flowAt (put s f x r)) (at-others s f x r)
-        (subst FlowRules (sym (at-put s f x r (omega (arith, R .all-flows)))) X)
-        (λ g d. R .flow-rules g);
-      round-rules = T
+          everywhere (λ g y. FlowRules y) f (flowAt s) (flowAt (put s f x r)) (at-others s f x r)
+          (subst FlowRules (sym (at-put s f x r (omega (arith, R .all-flows)))) X)
+          (λ g d. R .flow-rules g);
+      round-rules = T;
     }
 
 pub sizes-joined : {q : List ℕ} {size : ℕ} → Sizes q → 1 ≤ size → size ≤ sizeLimit → Sizes (q ++ (size ∷ []))
@@ -63,7 +63,7 @@ closed-flow-rules =
       waiting-in-range = omega arith;
       sizes-in-range = none;
       open-if-waiting = λ e. refl;
-      no-surplus-if-empty = λ e. refl
+      no-surplus-if-empty = λ e. refl;
     }
 
 pub open-flow-rules : (weight : ℕ) → weight ≤ weightLimit → FlowRules (openFlow weight)
@@ -75,13 +75,13 @@ open-flow-rules weight h =
       waiting-in-range = omega arith;
       sizes-in-range = none;
       open-if-waiting = λ e. refl;
-      no-surplus-if-empty = λ e. refl
+      no-surplus-if-empty = λ e. refl;
     }
 
 -- Step 1.
 pub joined-flow-rules : (w σ k : ℕ) (q : List ℕ) (size : ℕ) → FlowRules (record { weight = w; surplus = σ; slot = k; queue = q })
-  → (w ≡ 0 → ⊥) → 1 ≤ size → size ≤ sizeLimit → length q < queueLimit
-  → FlowRules (packetJoined (record { weight = w; surplus = σ; slot = k; queue = q }) size)
+    → (w ≡ 0 → ⊥) → 1 ≤ size → size ≤ sizeLimit → length q < queueLimit
+    → FlowRules (packetJoined (record { weight = w; surplus = σ; slot = k; queue = q }) size)
 unfolding packetJoined
 joined-flow-rules w σ k [] size R d h l b =
     record {
@@ -91,7 +91,7 @@ joined-flow-rules w σ k [] size R d h l b =
       waiting-in-range = omega arith;
       sizes-in-range = one h l none;
       open-if-waiting = λ e. absurd (d e);
-      no-surplus-if-empty = λ e. refl
+      no-surplus-if-empty = λ e. refl;
     }
 joined-flow-rules w σ k (p ∷ q) size R d h l b =
     record {
@@ -101,7 +101,7 @@ joined-flow-rules w σ k (p ∷ q) size R d h l b =
       waiting-in-range = omega (arith, length-append q (size ∷ []));
       sizes-in-range = sizes-joined (R .sizes-in-range) h l;
       open-if-waiting = λ e. absurd (d e);
-      no-surplus-if-empty = λ e. let z : _≡_ {A = ℕ} 0 1 = cc in absurd (omega arith)
+      no-surplus-if-empty = λ e. let z : _≡_ {A = ℕ} 0 1 = cc in absurd (omega arith);
     }
 
 -- Step 2.
@@ -115,7 +115,7 @@ cleared-flow-rules x R =
       waiting-in-range = R .waiting-in-range;
       sizes-in-range = R .sizes-in-range;
       open-if-waiting = R .open-if-waiting;
-      no-surplus-if-empty = λ e. refl
+      no-surplus-if-empty = λ e. refl;
     }
 
 -- Steps 3 and 6. What is left of a queue, with a surplus that fits.
@@ -126,7 +126,7 @@ pub first-in-range : {p : ℕ} {q : List ℕ} → Sizes (p ∷ q) → (1 ≤ p) 
 first-in-range (one h l more) = (h, l)
 
 pub left-flow-rules : (w σ k : ℕ) (p : ℕ) (q : List ℕ) (σ′ : ℕ) → FlowRules (record { weight = w; surplus = σ; slot = k; queue = p ∷ q })
-  → σ′ ≤ markLimit → (q ≡ [] → σ′ ≡ 0) → FlowRules (record { weight = w; surplus = σ′; slot = (k + 1) % queueLimit; queue = q })
+    → σ′ ≤ markLimit → (q ≡ [] → σ′ ≡ 0) → FlowRules (record { weight = w; surplus = σ′; slot = (k + 1) % queueLimit; queue = q })
 left-flow-rules w σ k p q σ′ R h z =
     record {
       weight-in-range = R .weight-in-range;
@@ -135,5 +135,5 @@ left-flow-rules w σ k p q σ′ R h z =
       waiting-in-range = omega (arith, R .waiting-in-range);
       sizes-in-range = sizes-left (R .sizes-in-range);
       open-if-waiting = λ e. let u : p ∷ q ≡ [] = R .open-if-waiting e in let z : _≡_ {A = ℕ} 0 1 = cc in absurd (omega arith);
-      no-surplus-if-empty = z
+      no-surplus-if-empty = z;
     }

@@ -42,9 +42,9 @@ weighs x R waits = go (x .weight) refl
 module _ {flow flow′ : ℕ → Flow} (r : Round) (f a n w σ k : ℕ) (only : OnlyAt f flow flow′)
     (L : LineRules flow (f ∷ []) (r .line) (r .mark) (r .running) (r .visits - 1)) where
   pub served-keeps : (q : List ℕ) → FlowRules (flowOf w σ k q) → flow f ≡ flowOf w σ k q → flow′ f ≡ served r (flowOf w σ k q) f a n .flow
-    → TurnRules (flowOf w σ k q) (r .visits) (r .mark) a n → (q ≡ [] → ⊥)
-    → FlowRules (served r (flowOf w σ k q) f a n .flow)
-    × RoundRules flow′ (served r (flowOf w σ k q) f a n .round) (served r (flowOf w σ k q) f a n .round .turn)
+      → TurnRules (flowOf w σ k q) (r .visits) (r .mark) a n → (q ≡ [] → ⊥)
+      → FlowRules (served r (flowOf w σ k q) f a n .flow)
+      × RoundRules flow′ (served r (flowOf w σ k q) f a n .round) (served r (flowOf w σ k q) f a n .round .turn)
   unfolding served settled firstLeft turnClosed turnKept excessKept RoundRules
   served-keeps [] R here there T waits = absurd (waits refl)
   served-keeps (p ∷ []) R here there T waits =
@@ -53,61 +53,70 @@ module _ {flow flow′ : ℕ → Flow} (r : Round) (f a n w σ k : ℕ) (only : 
     where
       x : Flow
       x = flowOf w σ k (p ∷ (p′ ∷ q))
+
       weight : 1 ≤ w
       weight = weighs x R waits
+
       top : n + p ≤ a + markLimit
       top = omega (arith, first-in-range (R .sizes-in-range), T .more-may-be-sent)
+
       go : (b : Bool) (d : Reply) → leb a (n + p) ≡ b → flow′ f ≡ settled b r (firstLeft x) f a (n + p) d .flow
-        → FlowRules (settled b r (firstLeft x) f a (n + p) d .flow)
-        × RoundRules flow′ (settled b r (firstLeft x) f a (n + p) d .round) (settled b r (firstLeft x) f a (n + p) d .round .turn)
+          → FlowRules (settled b r (firstLeft x) f a (n + p) d .flow)
+          × RoundRules flow′ (settled b r (firstLeft x) f a (n + p) d .round) (settled b r (firstLeft x) f a (n + p) d .round .turn)
       go true d e there′ =
-          let enough : a ≤ n + p = leb-true a (n + p) e in
-          (left-flow-rules w σ k p (p′ ∷ q) (n + p - a) R (omega (arith, top)) (λ z. let u : _≡_ {A = ℕ} 0 1 = cc in absurd (omega arith)),
-          rejoins-the-line only
-          (raised-keeps (r .running) w a (n + p))
-          (raised-at-most (r .running) w a (n + p) markLimit weight (L .running-in-range) top)
-          (rw there′ (raised-covers (r .running) w a (n + p) weight enough))
-          (ap activity there′ ∙ sym (ap activity here))
-          L)
-      go false d e there′ =
-          (left-flow-rules w σ k p (p′ ∷ q) σ R (R .surplus-in-range) (λ z. let u : _≡_ {A = ℕ} 0 1 = cc in absurd (omega arith)),
-          (same-standing only
-          (ap (λ (y : Flow). y .weight) there′ ∙ sym (ap (λ (y : Flow). y .weight) here))
-          (ap (λ (y : Flow). y .surplus) there′ ∙ sym (ap (λ (y : Flow). y .surplus) here))
-          (ap activity there′ ∙ sym (ap activity here))
-          L,
+          let enough : a ≤ n + p = leb-true a (n + p) e in (
+            left-flow-rules w σ k p (p′ ∷ q) (n + p - a) R (omega (arith, top)) (λ z. let u : _≡_ {A = ℕ} 0 1 = cc in absurd (omega arith)),
+            rejoins-the-line only
+                (raised-keeps (r .running) w a (n + p))
+                (raised-at-most (r .running) w a (n + p) markLimit weight (L .running-in-range) top)
+                (rw there′ (raised-covers (r .running) w a (n + p) weight enough))
+                (ap activity there′ ∙ sym (ap activity here))
+                L,
+          )
+      go false d e there′ = (
+        left-flow-rules w σ k p (p′ ∷ q) σ R (R .surplus-in-range) (λ z. let u : _≡_ {A = ℕ} 0 1 = cc in absurd (omega arith)),
+        (
+          same-standing only
+              (ap (λ (y : Flow). y .weight) there′ ∙ sym (ap (λ (y : Flow). y .weight) here))
+              (ap (λ (y : Flow). y .surplus) there′ ∙ sym (ap (λ (y : Flow). y .surplus) here))
+              (ap activity there′ ∙ sym (ap activity here))
+              L,
           record {
             counts-a-visit = T .counts-a-visit;
             has-no-surplus = ap (λ (y : Flow). y .surplus) there′ ∙ T .has-no-surplus;
             allowed-at-least-weight = rw there′ (T .allowed-at-least-weight);
             allowed-at-most = rw there′ (T .allowed-at-most);
-            more-may-be-sent = leb-false a (n + p) e
+            more-may-be-sent = leb-false a (n + p) e;
           },
-          omega (arith, first-in-range (R .sizes-in-range))))
+          omega (arith, first-in-range (R .sizes-in-range)),
+        ),
+      )
+
+-- Every flow of a new scheduler is closed.
+pub new-closed : (f : ℕ) → flowAt newScheduler f ≡ closedFlow
+unfolding newScheduler
+new-closed f =
+    elim (decLt f flowLimit) [
+      | yes b ↦ getD-replicate flowLimit f closedFlow closedFlow b
+      | no b ↦ List·getD-eq-default (replicate flowLimit closedFlow) closedFlow {n = f} (omega (arith, length-replicate flowLimit closedFlow))
+    ]
 
 pub new-keeps : Rules newScheduler
 unfolding newScheduler RoundRules count
 new-keeps =
     record {
       all-flows = refl;
-      flow-rules = λ f. subst FlowRules (sym (all-closed f)) closed-flow-rules;
+      flow-rules = λ f. subst FlowRules (sym (new-closed f)) closed-flow-rules;
       round-rules =
-        record {
-          mark-in-range = omega arith;
-          running-in-range = omega arith;
-          stands-once = λ f. sym (ap activity (all-closed f));
-          visits-in-line = omega arith;
-          owed-this-round = λ f h. absurd (omega arith);
-          owed-next-round = λ f h. absurd (omega arith)
-        }
+          record {
+            mark-in-range = omega arith;
+            running-in-range = omega arith;
+            stands-once = λ f. sym (ap activity (new-closed f));
+            visits-in-line = omega arith;
+            owed-this-round = λ f h. absurd (omega arith);
+            owed-next-round = λ f h. absurd (omega arith);
+          };
     }
-  where
-    all-closed : (f : ℕ) → flowAt newScheduler f ≡ closedFlow
-    all-closed f =
-        elim (decLt f flowLimit) [
-          yes b ↦ getD-replicate flowLimit f closedFlow closedFlow b
-          | no b ↦ List·getD-eq-default (replicate flowLimit closedFlow) closedFlow {n = f} (omega (arith, length-replicate flowLimit closedFlow))
-        ]
 
 -- Where the number of a refusal is 0 the call has its effect, and otherwise none.
 pub unless-keeps : (n : ℕ) (s t : Scheduler) → Rules s → (n ≡ 0 → Rules t) → Rules (unlessRefused n s t .state)
@@ -117,14 +126,14 @@ unless-keeps (suc n) s t R h = R
 
 -- The rules of a turn speak of its flow's weight and surplus alone.
 turn-rules-same : {x y : Flow} {visits mark a n : ℕ} → y .weight ≡ x .weight → y .surplus ≡ x .surplus → TurnRules x visits mark a n
-  → TurnRules y visits mark a n
+    → TurnRules y visits mark a n
 turn-rules-same w σ T =
     record {
       counts-a-visit = T .counts-a-visit;
       has-no-surplus = σ ∙ T .has-no-surplus;
       allowed-at-least-weight = rw w (T .allowed-at-least-weight);
       allowed-at-most = rw w (T .allowed-at-most);
-      more-may-be-sent = T .more-may-be-sent
+      more-may-be-sent = T .more-may-be-sent;
     }
 
 module _ {flow flow′ : ℕ → Flow} {f : ℕ} (only : OnlyAt f flow flow′) (r : Round) where
@@ -142,7 +151,7 @@ module _ {flow flow′ : ℕ → Flow} {f : ℕ} (only : OnlyAt f flow flow′) 
 
   -- Step 1.
   pub offering-keeps : (turn : Serving) (w σ k : ℕ) (q : List ℕ) (size : ℕ) → flow f ≡ flowOf w σ k q → flow′ f ≡ packetJoined (flowOf w σ k q) size
-    → RoundRules flow r turn → RoundRules flow′ (flowLined r f (flowOf w σ k q)) turn
+      → RoundRules flow r turn → RoundRules flow′ (flowLined r f (flowOf w σ k q)) turn
   unfolding RoundRules packetJoined flowLined
   offering-keeps NoTurn w σ k [] size here there R = joins-the-line only (ap activity here) (ap (λ (y : Flow). y .surplus) there) (ap activity there) R
   offering-keeps NoTurn w σ k (p ∷ q) size here there R =
@@ -151,19 +160,21 @@ module _ {flow flow′ : ℕ → Flow} {f : ℕ} (only : OnlyAt f flow flow′) 
       (ap (λ (y : Flow). y .surplus) there ∙ sym (ap (λ (y : Flow). y .surplus) here))
       (ap activity there ∙ sym (ap activity here))
       R
-  offering-keeps (Turn g a n) w σ k [] size here there R =
-      (joins-the-line only (ap activity here) (ap (λ (y : Flow). y .surplus) there) (ap activity there) (R .0),
-      rw (other-turn (R .0) (ap activity here)) (R .1),
-      R .2)
+  offering-keeps (Turn g a n) w σ k [] size here there R = (
+    joins-the-line only (ap activity here) (ap (λ (y : Flow). y .surplus) there) (ap activity there) (R .0),
+    rw (other-turn (R .0) (ap activity here)) (R .1),
+    R .2,
+  )
   offering-keeps (Turn g a n) w σ k (p ∷ q) size here there R =
       let weight : flow′ f .weight ≡ flow f .weight = ap (λ (y : Flow). y .weight) there ∙ sym (ap (λ (y : Flow). y .weight) here) in
-      let surplus : flow′ f .surplus ≡ flow f .surplus = ap (λ (y : Flow). y .surplus) there ∙ sym (ap (λ (y : Flow). y .surplus) here) in
-      (same-standing only weight surplus (ap activity there ∙ sym (ap activity here)) (R .0),
-      turn-rules-same
-      (everywhere (λ h y. y .weight ≡ flow h .weight) f flow flow′ only weight (λ h d. refl) g)
-      (everywhere (λ h y. y .surplus ≡ flow h .surplus) f flow flow′ only surplus (λ h d. refl) g)
-      (R .1),
-      R .2)
+      let surplus : flow′ f .surplus ≡ flow f .surplus = ap (λ (y : Flow). y .surplus) there ∙ sym (ap (λ (y : Flow). y .surplus) here) in (
+        same-standing only weight surplus (ap activity there ∙ sym (ap activity here)) (R .0),
+        turn-rules-same
+            (everywhere (λ h y. y .weight ≡ flow h .weight) f flow flow′ only weight (λ h d. refl) g)
+            (everywhere (λ h y. y .surplus ≡ flow h .surplus) f flow flow′ only surplus (λ h d. refl) g)
+            (R .1),
+        R .2,
+      )
 
 pub opened-keeps : (s : Scheduler) (f weight : ℕ) → Rules s → Rules (opened s f weight .state)
 unfolding opened
@@ -187,8 +198,10 @@ offered-keeps s f size R =
   where
     x : Flow
     x = flowAt s f
+
     r : Round
     r = flowLined (s .round) f x
+
     effect : MayOffer f size x → Rules (put s f (packetJoined x size) r)
     effect may =
         rules-put s f (packetJoined x size) r R (may .flow-in-range)
@@ -207,9 +220,9 @@ standing-waits x h e = absurd (omega (arith, ap (λ (q : List ℕ). ifEmpty {A =
 module _ (s : Scheduler) (R : Rules s) where
   -- Steps 3 to 6 in an open turn of f, whose flow is as in the state but for its surplus.
   in-turn-keeps : (r : Round) (f a n w σ k : ℕ) (flow : ℕ → Flow) → OnlyAt f (flowAt s) flow → flow f ≡ flowOf w σ k (flowAt s f .queue)
-    → FlowRules (flowOf w σ k (flowAt s f .queue)) → LineRules flow (f ∷ []) (r .line) (r .mark) (r .running) (r .visits - 1)
-    → TurnRules (flowOf w σ k (flowAt s f .queue)) (r .visits) (r .mark) a n
-    → Rules
+      → FlowRules (flowOf w σ k (flowAt s f .queue)) → LineRules flow (f ∷ []) (r .line) (r .mark) (r .running) (r .visits - 1)
+      → TurnRules (flowOf w σ k (flowAt s f .queue)) (r .visits) (r .mark) a n
+      → Rules
       (put s f
       (served r (flowOf w σ k (flowAt s f .queue)) f a n .flow)
       (served r (flowOf w σ k (flowAt s f .queue)) f a n .round))
@@ -218,14 +231,19 @@ module _ (s : Scheduler) (R : Rules s) where
     where
       q : List ℕ
       q = flowAt s f .queue
+
       x′ : Flow
       x′ = served r (flowOf w σ k q) f a n .flow
+
       r′ : Round
       r′ = served r (flowOf w σ k q) f a n .round
+
       waits : q ≡ [] → ⊥
       waits = standing-waits (flowOf w σ k q) (omega (arith, L .stands-once f, count-head f (r .line), ap activity here))
+
       inside : f < flowLimit
       inside = waiting-in-reach s f (R .all-flows) waits
+
       both : FlowRules x′ × RoundRules (flowAt (put s f x′ r′)) r′ (r′ .turn)
       both =
           served-keeps r f a n w σ k (λ g d. at-others s f x′ r′ g d ∙ sym (only g d)) L q X here
@@ -233,7 +251,7 @@ module _ (s : Scheduler) (R : Rules s) where
 
   -- Steps 2 to 6 for the head of the line, once a visit is left.
   begun-keeps : (f : ℕ) (line : List ℕ) (visits mark running : ℕ) → LineRules (flowAt s) [] (f ∷ line) mark running (suc visits)
-    → Rules
+      → Rules
       (put s f
       (served (turnOpened (roundOf (f ∷ line) (suc visits) mark running NoTurn) f (allowance (flowAt s f .weight) mark (flowAt s f .surplus))) (surplusCleared (flowAt s f)) f (allowance (flowAt s f .weight) mark (flowAt s f .surplus)) 0 .flow)
       (served (turnOpened (roundOf (f ∷ line) (suc visits) mark running NoTurn) f (allowance (flowAt s f .weight) mark (flowAt s f .surplus))) (surplusCleared (flowAt s f)) f (allowance (flowAt s f .weight) mark (flowAt s f .surplus)) 0 .round))
@@ -247,30 +265,37 @@ module _ (s : Scheduler) (R : Rules s) where
         has-no-surplus = refl;
         allowed-at-least-weight = omega (arith, owed);
         allowed-at-most = omega arith;
-        more-may-be-sent = omega (arith, owed, weighs x (R .flow-rules f) waits)
+        more-may-be-sent = omega (arith, owed, weighs x (R .flow-rules f) waits);
       })
     where
       x : Flow
       x = flowAt s f
+
       r : Round
       r = turnOpened (roundOf (f ∷ line) (suc visits) mark running NoTurn) f (allowance (x .weight) mark (x .surplus))
+
       s′ : Scheduler
       s′ = put s f (surplusCleared x) r
+
       stands : 1 ≤ activity x
       stands = omega (arith, L .stands-once f, count-head f line)
+
       waits : x .queue ≡ [] → ⊥
       waits = standing-waits x stands
+
       here : flowAt s′ f ≡ surplusCleared x
       here = at-put s f (surplusCleared x) r (omega (arith, R .all-flows, waiting-in-reach s f (R .all-flows) waits))
+
       counted : suc visits - 1 ≡ visits
       counted = omega arith
+
       owed : x .surplus ≤ x .weight * mark
       owed = L .owed-this-round f (omega (arith, count-head f (take visits line)))
 
 -- The departure call, on a state that is taken apart.
 departed-keeps-parts : (flows : List Flow) (line : List ℕ) (visits mark running : ℕ) (turn : Serving)
-  → Rules (record { flows = flows; round = roundOf line visits mark running turn })
-  → Rules (departed (record { flows = flows; round = roundOf line visits mark running turn }) .state)
+    → Rules (record { flows = flows; round = roundOf line visits mark running turn })
+    → Rules (departed (record { flows = flows; round = roundOf line visits mark running turn }) .state)
 unfolding departed visit visitBy roundStarted RoundRules
 departed-keeps-parts flows line visits mark running (Turn f a n) R =
     let s : Scheduler = record { flows = flows; round = roundOf line visits mark running (Turn f a n) } in
@@ -297,7 +322,7 @@ departures-keep (suc n) s R =
     go (departed s .reply) (departed-keeps s R) (departures-keep n (departed s .state) (departed-keeps s R))
   where
     go : (reply : Reply) → Rules (departed s .state) → Rules (departures n (departed s .state) .state)
-      → Rules (andThen reply (departed s .state) (departures n (departed s .state)) .state)
+        → Rules (andThen reply (departed s .state) (departures n (departed s .state)) .state)
     go (Departure d) now then = then
     go Idle now then = now
     go (Refused k) now then = now

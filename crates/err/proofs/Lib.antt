@@ -6,3 +6,5 @@ pub mod Flows
 pub mod Refusals
 pub mod Keeps
 pub mod Standing
+pub mod Queues
+pub mod Demand2

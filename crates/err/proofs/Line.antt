@@ -19,10 +19,10 @@ OnlyAt f flow flow′ = (g : ℕ) → (g ≡ f → ⊥) → flow′ g ≡ flow g
 
 -- What holds of f after, and of every other flow before, holds of every flow after.
 pub everywhere : (P : ℕ → Flow → Type 0) (f : ℕ) (flow flow′ : ℕ → Flow) → OnlyAt f flow flow′ → P f (flow′ f)
-  → ((g : ℕ) → (g ≡ f → ⊥) → P g (flow g)) → (g : ℕ) → P g (flow′ g)
+    → ((g : ℕ) → (g ≡ f → ⊥) → P g (flow g)) → (g : ℕ) → P g (flow′ g)
 everywhere P f flow flow′ only here there g =
     elim (ℕ-discrete g f) [
-      yes q ↦ subst (λ (k : ℕ). P k (flow′ k)) (sym q) here
+      | yes q ↦ subst (λ (k : ℕ). P k (flow′ k)) (sym q) here
       | no q ↦ subst (λ (x : Flow). P g x) (sym (only g q)) (there g q)
     ]
 
@@ -36,7 +36,7 @@ activity-at-most-one x = go (x .queue)
 module _ {f : ℕ} {flow flow′ : ℕ → Flow} (only : OnlyAt f flow flow′) where
   -- A change of f that leaves its weight, surplus and activity leaves the line's rules.
   pub same-standing : {out line : List ℕ} {mark running n : ℕ} → flow′ f .weight ≡ flow f .weight → flow′ f .surplus ≡ flow f .surplus
-    → activity (flow′ f) ≡ activity (flow f) → LineRules flow out line mark running n → LineRules flow′ out line mark running n
+      → activity (flow′ f) ≡ activity (flow f) → LineRules flow out line mark running n → LineRules flow′ out line mark running n
   same-standing {out} {line} {mark} {running} {n} w s a L =
       record {
         mark-in-range = L .mark-in-range;
@@ -44,12 +44,12 @@ module _ {f : ℕ} {flow flow′ : ℕ → Flow} (only : OnlyAt f flow flow′) 
         stands-once = everywhere (λ g x. count g (out ++ line) ≡ activity x) f flow flow′ only (L .stands-once f ∙ sym a) (λ g d. L .stands-once g);
         visits-in-line = L .visits-in-line;
         owed-this-round = everywhere (λ g x. 1 ≤ count g (take n line) → x .surplus ≤ x .weight * mark) f flow flow′ only (λ h. rw (w, s) (L .owed-this-round f h)) (λ g d. L .owed-this-round g);
-        owed-next-round = everywhere (λ g x. 1 ≤ count g (drop n line) → x .surplus ≤ x .weight * running) f flow flow′ only (λ h. rw (w, s) (L .owed-next-round f h)) (λ g d. L .owed-next-round g)
+        owed-next-round = everywhere (λ g x. 1 ≤ count g (drop n line) → x .surplus ≤ x .weight * running) f flow flow′ only (λ h. rw (w, s) (L .owed-next-round f h)) (λ g d. L .owed-next-round g);
       }
 
   -- A change of a flow that is active neither before nor after leaves them too: it stands nowhere.
   pub not-standing : {out line : List ℕ} {mark running n : ℕ} → activity (flow f) ≡ 0 → activity (flow′ f) ≡ 0
-    → LineRules flow out line mark running n → LineRules flow′ out line mark running n
+      → LineRules flow out line mark running n → LineRules flow′ out line mark running n
   not-standing {out} {line} {mark} {running} {n} was a L =
       record {
         mark-in-range = L .mark-in-range;
@@ -57,35 +57,35 @@ module _ {f : ℕ} {flow flow′ : ℕ → Flow} (only : OnlyAt f flow flow′) 
         stands-once = everywhere (λ g x. count g (out ++ line) ≡ activity x) f flow flow′ only (L .stands-once f ∙ was ∙ sym a) (λ g d. L .stands-once g);
         visits-in-line = L .visits-in-line;
         owed-this-round =
-          everywhere (λ g x. 1 ≤ count g (take n line) → x .surplus ≤ x .weight * mark) f flow flow′ only
-          (λ h. absurd (omega (arith, count-parts f n line, count-append f out line, L .stands-once f)))
-          (λ g d. L .owed-this-round g);
+            everywhere (λ g x. 1 ≤ count g (take n line) → x .surplus ≤ x .weight * mark) f flow flow′ only
+            (λ h. absurd (omega (arith, count-parts f n line, count-append f out line, L .stands-once f)))
+            (λ g d. L .owed-this-round g);
         owed-next-round =
-          everywhere (λ g x. 1 ≤ count g (drop n line) → x .surplus ≤ x .weight * running) f flow flow′ only
-          (λ h. absurd (omega (arith, count-parts f n line, count-append f out line, L .stands-once f)))
-          (λ g d. L .owed-next-round g)
+            everywhere (λ g x. 1 ≤ count g (drop n line) → x .surplus ≤ x .weight * running) f flow flow′ only
+            (λ h. absurd (omega (arith, count-parts f n line, count-append f out line, L .stands-once f)))
+            (λ g d. L .owed-next-round g);
       }
 
   -- Step 1, for a flow that was not active: it goes to the end of the line with surplus 0.
   pub joins-the-line : {out line : List ℕ} {mark running n : ℕ} → activity (flow f) ≡ 0 → flow′ f .surplus ≡ 0 → activity (flow′ f) ≡ 1
-    → LineRules flow out line mark running n → LineRules flow′ out (line ++ (f ∷ [])) mark running n
+      → LineRules flow out line mark running n → LineRules flow′ out (line ++ (f ∷ [])) mark running n
   joins-the-line {out} {line} {mark} {running} {n} was s a L =
       record {
         mark-in-range = L .mark-in-range;
         running-in-range = L .running-in-range;
         stands-once =
-          everywhere (λ g x. count g (out ++ (line ++ (f ∷ []))) ≡ activity x) f flow flow′ only
-          (omega (arith, counted f, L .stands-once f, count-self f))
-          (λ g d. omega (arith, counted g, L .stands-once g, count-other g f d));
+            everywhere (λ g x. count g (out ++ (line ++ (f ∷ []))) ≡ activity x) f flow flow′ only
+            (omega (arith, counted f, L .stands-once f, count-self f))
+            (λ g d. omega (arith, counted g, L .stands-once g, count-other g f d));
         visits-in-line = omega (arith, L .visits-in-line, length-append line (f ∷ []));
         owed-this-round =
-          rw (take-append-le n line (f ∷ []) (L .visits-in-line))
-          (everywhere (λ g x. 1 ≤ count g (take n line) → x .surplus ≤ x .weight * mark) f flow flow′ only (λ h. omega (arith, s)) (λ g d. L .owed-this-round g));
+            rw (take-append-le n line (f ∷ []) (L .visits-in-line))
+            (everywhere (λ g x. 1 ≤ count g (take n line) → x .surplus ≤ x .weight * mark) f flow flow′ only (λ h. omega (arith, s)) (λ g d. L .owed-this-round g));
         owed-next-round =
-          rw (drop-append-le n line (f ∷ []) (L .visits-in-line))
-          (everywhere (λ g x. 1 ≤ count g (drop n line ++ (f ∷ [])) → x .surplus ≤ x .weight * running) f flow flow′ only
-          (λ h. omega (arith, s))
-          (λ g d h. L .owed-next-round g (omega (arith, count-append g (drop n line) (f ∷ []), count-other g f d))))
+            rw (drop-append-le n line (f ∷ []) (L .visits-in-line))
+            (everywhere (λ g x. 1 ≤ count g (drop n line ++ (f ∷ [])) → x .surplus ≤ x .weight * running) f flow flow′ only
+            (λ h. omega (arith, s))
+            (λ g d h. L .owed-next-round g (omega (arith, count-append g (drop n line) (f ∷ []), count-other g f d))));
       }
     where
       counted : (g : ℕ) → count g (out ++ (line ++ (f ∷ []))) ≡ count g (out ++ line) + count g (f ∷ [])
@@ -94,7 +94,7 @@ module _ {f : ℕ} {flow flow′ : ℕ → Flow} (only : OnlyAt f flow flow′) 
 
   -- Step 2: the head leaves the line and opens a turn, its surplus becomes 0.
   pub leaves-the-line : {line : List ℕ} {mark running n : ℕ} → flow′ f .surplus ≡ 0 → activity (flow′ f) ≡ activity (flow f)
-    → LineRules flow [] (f ∷ line) mark running (suc n) → LineRules flow′ (f ∷ []) line mark running n
+      → LineRules flow [] (f ∷ line) mark running (suc n) → LineRules flow′ (f ∷ []) line mark running n
   leaves-the-line {line} {mark} {running} {n} s a L =
       record {
         mark-in-range = L .mark-in-range;
@@ -102,38 +102,38 @@ module _ {f : ℕ} {flow flow′ : ℕ → Flow} (only : OnlyAt f flow flow′) 
         stands-once = everywhere (λ g x. count g (f ∷ line) ≡ activity x) f flow flow′ only (L .stands-once f ∙ sym a) (λ g d. L .stands-once g);
         visits-in-line = omega (arith, L .visits-in-line);
         owed-this-round =
-          everywhere (λ g x. 1 ≤ count g (take n line) → x .surplus ≤ x .weight * mark) f flow flow′ only
-          (λ h. omega (arith, s))
-          (λ g d h. L .owed-this-round g (omega (arith, count-behind g f (take n line) d)));
+            everywhere (λ g x. 1 ≤ count g (take n line) → x .surplus ≤ x .weight * mark) f flow flow′ only
+            (λ h. omega (arith, s))
+            (λ g d h. L .owed-this-round g (omega (arith, count-behind g f (take n line) d)));
         owed-next-round =
-          everywhere (λ g x. 1 ≤ count g (drop n line) → x .surplus ≤ x .weight * running) f flow flow′ only
-          (λ h. omega (arith, s))
-          (λ g d. L .owed-next-round g)
+            everywhere (λ g x. 1 ≤ count g (drop n line) → x .surplus ≤ x .weight * running) f flow flow′ only
+            (λ h. omega (arith, s))
+            (λ g d. L .owed-next-round g);
       }
 
   -- Step 6, with packets waiting: the flow goes to the end of the line, its surplus covered by the raised running mark.
   pub rejoins-the-line : {line : List ℕ} {mark running running′ n : ℕ} → running ≤ running′ → running′ ≤ markLimit
-    → flow′ f .surplus ≤ flow′ f .weight * running′ → activity (flow′ f) ≡ activity (flow f)
-    → LineRules flow (f ∷ []) line mark running n → LineRules flow′ [] (line ++ (f ∷ [])) mark running′ n
+      → flow′ f .surplus ≤ flow′ f .weight * running′ → activity (flow′ f) ≡ activity (flow f)
+      → LineRules flow (f ∷ []) line mark running n → LineRules flow′ [] (line ++ (f ∷ [])) mark running′ n
   rejoins-the-line {line} {mark} {running} {running′} {n} up top s a L =
       record {
         mark-in-range = L .mark-in-range;
         running-in-range = top;
         stands-once =
-          everywhere (λ g x. count g (line ++ (f ∷ [])) ≡ activity x) f flow flow′ only
-          (turned f ∙ L .stands-once f ∙ sym a)
-          (λ g d. turned g ∙ L .stands-once g);
+            everywhere (λ g x. count g (line ++ (f ∷ [])) ≡ activity x) f flow flow′ only
+            (turned f ∙ L .stands-once f ∙ sym a)
+            (λ g d. turned g ∙ L .stands-once g);
         visits-in-line = omega (arith, L .visits-in-line, length-append line (f ∷ []));
         owed-this-round =
-          rw (take-append-le n line (f ∷ []) (L .visits-in-line))
-          (everywhere (λ g x. 1 ≤ count g (take n line) → x .surplus ≤ x .weight * mark) f flow flow′ only
-          (λ h. absurd (omega (arith, count-parts f n line, count-head f line, L .stands-once f, activity-at-most-one (flow f))))
-          (λ g d. L .owed-this-round g));
+            rw (take-append-le n line (f ∷ []) (L .visits-in-line))
+            (everywhere (λ g x. 1 ≤ count g (take n line) → x .surplus ≤ x .weight * mark) f flow flow′ only
+            (λ h. absurd (omega (arith, count-parts f n line, count-head f line, L .stands-once f, activity-at-most-one (flow f))))
+            (λ g d. L .owed-this-round g));
         owed-next-round =
-          rw (drop-append-le n line (f ∷ []) (L .visits-in-line))
-          (everywhere (λ g x. 1 ≤ count g (drop n line ++ (f ∷ [])) → x .surplus ≤ x .weight * running′) f flow flow′ only
-          (λ h. s)
-          (λ g d h. omega (arith, L .owed-next-round g (omega (arith, count-append g (drop n line) (f ∷ []), count-other g f d)), mul-le-mul-left (flow g .weight) up)))
+            rw (drop-append-le n line (f ∷ []) (L .visits-in-line))
+            (everywhere (λ g x. 1 ≤ count g (drop n line ++ (f ∷ [])) → x .surplus ≤ x .weight * running′) f flow flow′ only
+            (λ h. s)
+            (λ g d h. omega (arith, L .owed-next-round g (omega (arith, count-append g (drop n line) (f ∷ []), count-other g f d)), mul-le-mul-left (flow g .weight) up)));
       }
     where
       turned : (g : ℕ) → count g (line ++ (f ∷ [])) ≡ count g (f ∷ line)
@@ -141,30 +141,30 @@ module _ {f : ℕ} {flow flow′ : ℕ → Flow} (only : OnlyAt f flow flow′) 
 
   -- Step 6, with none waiting: the flow is not active.
   pub leaves-for-good : {line : List ℕ} {mark running running′ n : ℕ} → running ≤ running′ → running′ ≤ markLimit
-    → activity (flow f) ≡ 1 → activity (flow′ f) ≡ 0
-    → LineRules flow (f ∷ []) line mark running n → LineRules flow′ [] line mark running′ n
+      → activity (flow f) ≡ 1 → activity (flow′ f) ≡ 0
+      → LineRules flow (f ∷ []) line mark running n → LineRules flow′ [] line mark running′ n
   leaves-for-good {line} {mark} {running} {running′} {n} up top was a L =
       record {
         mark-in-range = L .mark-in-range;
         running-in-range = top;
         stands-once =
-          everywhere (λ g x. count g line ≡ activity x) f flow flow′ only
-          (omega (arith, count-head f line, L .stands-once f))
-          (λ g d. sym (count-behind g f line d) ∙ L .stands-once g);
+            everywhere (λ g x. count g line ≡ activity x) f flow flow′ only
+            (omega (arith, count-head f line, L .stands-once f))
+            (λ g d. sym (count-behind g f line d) ∙ L .stands-once g);
         visits-in-line = L .visits-in-line;
         owed-this-round =
-          everywhere (λ g x. 1 ≤ count g (take n line) → x .surplus ≤ x .weight * mark) f flow flow′ only
-          (λ h. absurd (omega (arith, count-parts f n line, count-head f line, L .stands-once f)))
-          (λ g d. L .owed-this-round g);
+            everywhere (λ g x. 1 ≤ count g (take n line) → x .surplus ≤ x .weight * mark) f flow flow′ only
+            (λ h. absurd (omega (arith, count-parts f n line, count-head f line, L .stands-once f)))
+            (λ g d. L .owed-this-round g);
         owed-next-round =
-          everywhere (λ g x. 1 ≤ count g (drop n line) → x .surplus ≤ x .weight * running′) f flow flow′ only
-          (λ h. absurd (omega (arith, count-parts f n line, count-head f line, L .stands-once f)))
-          (λ g d h. omega (arith, L .owed-next-round g h, mul-le-mul-left (flow g .weight) up))
+            everywhere (λ g x. 1 ≤ count g (drop n line) → x .surplus ≤ x .weight * running′) f flow flow′ only
+            (λ h. absurd (omega (arith, count-parts f n line, count-head f line, L .stands-once f)))
+            (λ g d h. omega (arith, L .owed-next-round g h, mul-le-mul-left (flow g .weight) up));
       }
 
 -- Step 2, where a round starts: what was owed in the next round is owed in this one.
 pub round-starts : {flow : ℕ → Flow} {line : List ℕ} {mark running : ℕ}
-  → LineRules flow [] line mark running 0 → LineRules flow [] line running 0 (length line)
+    → LineRules flow [] line mark running 0 → LineRules flow [] line running 0 (length line)
 unfolding count
 round-starts {flow} {line} {mark} {running} L =
     record {
@@ -173,7 +173,7 @@ round-starts {flow} {line} {mark} {running} L =
       stands-once = L .stands-once;
       visits-in-line = omega arith;
       owed-this-round = rw (take-length line) (L .owed-next-round);
-      owed-next-round = rw (drop-length line) (λ g h. absurd (omega arith))
+      owed-next-round = rw (drop-length line) (λ g h. absurd (omega arith));
     }
 
 -- Only active flows stand in line, and each once: so the line never outgrows the number of flows.

@@ -35,7 +35,7 @@ may-open f weight x e =
       flow-in-range = leb-false flowLimit f (one .0);
       weight-positive = omega arith;
       weight-small = ltb-false weightLimit weight (weights .1);
-      not-open = eqb-true (x .weight) 0 (last (eqb (x .weight) 0) (two .1))
+      not-open = eqb-true (x .weight) 0 (last (eqb (x .weight) 0) (two .1));
     }
   where
     last : (b : Bool) → _≡_ {A = ℕ} (cond b 0 3) 0 → b ≡ true
@@ -63,5 +63,5 @@ may-offer f size x e =
       is-open = eqb-false (x .weight) 0 (four .0);
       size-positive = omega arith;
       size-small = ltb-false sizeLimit size (sizes .1);
-      has-room = leb-false queueLimit (length (x .queue)) (passed (leb queueLimit (length (x .queue))) 5 0 (fives .1) .0)
+      has-room = leb-false queueLimit (length (x .queue)) (passed (leb queueLimit (length (x .queue))) 5 0 (fives .1) .0);
     }

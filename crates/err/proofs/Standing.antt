@@ -83,13 +83,13 @@ module _ (s : Scheduler) (R : Rules s) where
             line-has-room = omega (arith, line-fits (T .0) beyond);
             a-visit-left = T .1 .counts-a-visit;
             allowed-in-range = omega (arith, T .1 .allowed-at-most, mul-le-mul (R .flow-rules f .weight-in-range) (T .0 .mark-in-range), R .flow-rules f .weight-in-range);
-            more-may-be-sent = T .1 .more-may-be-sent
+            more-may-be-sent = T .1 .more-may-be-sent;
           }
 
   -- Where a round starts, all of the line is visited in it; otherwise the head is among those to be visited.
   owed-by-head : (visits : ℕ) (f : ℕ) (l : List ℕ) → s .round .visits ≡ visits
-    → LineRules (flowAt s) [] (f ∷ l) (s .round .mark) (s .round .running) visits
-    → flowAt s f .surplus ≤ flowAt s f .weight * ifZero visits (s .round .running) (s .round .mark)
+      → LineRules (flowAt s) [] (f ∷ l) (s .round .mark) (s .round .running) visits
+      → flowAt s f .surplus ≤ flowAt s f .weight * ifZero visits (s .round .running) (s .round .mark)
   owed-by-head zero f l v L = round-starts L .owed-this-round f (rw (take-length (f ∷ l)) (omega (arith, count-head f l)))
   owed-by-head (suc n) f l v L = L .owed-this-round f (omega (arith, count-head f (take n l)))
 
@@ -99,17 +99,18 @@ module _ (s : Scheduler) (R : Rules s) where
     where
       rules : LineRules (flowAt s) [] (s .round .line) (s .round .mark) (s .round .running) (s .round .visits)
       rules = at-turn NoTurn t
+
       from : (l : List ℕ) → s .round .line ≡ l → 0 < length l → HeadFacts s (getD l 0 0)
       from [] e b = absurd (omega arith)
       from (f ∷ l) e b =
           let L : LineRules (flowAt s) [] (f ∷ l) (s .round .mark) (s .round .running) (s .round .visits) =
-            subst (λ (k : List ℕ). LineRules (flowAt s) [] k (s .round .mark) (s .round .running) (s .round .visits)) e rules in
+          subst (λ (k : List ℕ). LineRules (flowAt s) [] k (s .round .mark) (s .round .running) (s .round .visits)) e rules in
           let waits : flowAt s f .queue ≡ [] → ⊥ = standing-waits (flowAt s f) (omega (arith, L .stands-once f, count-head f l)) in
           record {
             in-reach = waiting-in-reach s f (R .all-flows) waits;
             waits = waits;
             weighs = weighs (flowAt s f) (R .flow-rules f) waits;
-            owed = owed-by-head (s .round .visits) f l refl L
+            owed = owed-by-head (s .round .visits) f l refl L;
           }
 
   never-twice-by : (turn : Serving) → RoundRules (flowAt s) (s .round) turn → (f : ℕ) → count f (s .round .line) ≤ 1
@@ -139,3 +140,16 @@ module _ (s : Scheduler) (R : Rules s) where
       by NoTurn t [] e = omega arith
       by NoTurn t (f ∷ l) e =
           omega (arith, head-facts t (omega (arith, ap length e)) .in-reach, ap (λ (k : List ℕ). getD k 0 0) e)
+
+  -- With no open turn and nobody in line, nothing waits.
+  pub nobody-waits : s .round .turn ≡ NoTurn → s .round .line ≡ [] → (f : ℕ) → flowAt s f .queue ≡ []
+  unfolding RoundRules count
+  nobody-waits t l f = empty (flowAt s f .queue) refl
+    where
+      rules : LineRules (flowAt s) [] (s .round .line) (s .round .mark) (s .round .running) (s .round .visits)
+      rules = at-turn NoTurn t
+
+      empty : (q : List ℕ) → flowAt s f .queue ≡ q → q ≡ []
+      empty [] e = refl
+      empty (p ∷ q) e =
+          absurd (omega (arith, rules .stands-once f, ap (count f) l, ap (λ (k : List ℕ). ifEmpty {A = ℕ} k 0 1) e))

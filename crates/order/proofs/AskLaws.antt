@@ -21,7 +21,7 @@ use Rattle.order.proofs.Encoded.{waiting-is}
 use Rattle.order.proofs.RoundLaws.{zero-chosen, positive-chosen}
 
 same-asked : {r r′ : RoundCell} {x x′ : FlowCell} {d d′ : Answer} → r ≡ r′ → x ≡ x′ → d ≡ d′
-  → _≡_ {A = Asked} (record { round = r; flow = x; answer = d }) (record { round = r′; flow = x′; answer = d′ })
+    → _≡_ {A = Asked} (record { round = r; flow = x; answer = d }) (record { round = r′; flow = x′; answer = d′ })
 same-asked a b c = λ i. record { round = a i; flow = b i; answer = c i }
 
 module _ (r : RoundCell) (x : FlowCell) (f n : ℕ) (ready : FlowReady x) where
@@ -30,8 +30,8 @@ module _ (r : RoundCell) (x : FlowCell) (f n : ℕ) (ready : FlowReady x) where
     may-open-here z = may-open f weight (viewFlow x) (sym e ∙ z)
 
     pub opened-law : n ≡ 0
-      → record { round = r; flow = record { weight = weight; surplus = 0; slot = 0; waiting = 0; sizes = replicate 8 0 }; answer = Done }
-      ≡ openedParts r x f weight
+        → record { round = r; flow = record { weight = weight; surplus = 0; slot = 0; waiting = 0; sizes = replicate 8 0 }; answer = Done }
+        ≡ openedParts r x f weight
     unfolding openedParts encodeFlow cells
     opened-law z =
         same-asked refl
@@ -56,11 +56,11 @@ module _ (r : RoundCell) (x : FlowCell) (f n : ℕ) (ready : FlowReady x) where
           rules = ready .rules;
           room = omega (arith, waiting-is x (ready .form), may-offer-here z .has-room);
           size-positive = may-offer-here z .size-positive;
-          size-small = may-offer-here z .size-small
+          size-small = may-offer-here z .size-small;
         }
 
     pub offered-law : (line : RoundCell) (queue : FlowCell) → n ≡ 0 → line ≡ encodeRound (flowLined (viewRound r) f (viewFlow x))
-      → queue ≡ encodeFlow (packetJoined (viewFlow x) size) → record { round = line; flow = queue; answer = Done } ≡ offeredParts r x f size
+        → queue ≡ encodeFlow (packetJoined (viewFlow x) size) → record { round = line; flow = queue; answer = Done } ≡ offeredParts r x f size
     unfolding offeredParts
     offered-law line queue z a b =
         same-asked

@@ -32,7 +32,7 @@ pub head-is : (r : RoundCell) → r ≡ encodeRound (viewRound r) → getD (r .l
 head-is r form = ap (λ (l : List ℕ). getD l 0 0) (line-is r form) ∙ first-cell (viewRound r .line)
 
 visit-of-head : (l : List ℕ) (r : Round) (x : Flow) → 0 < length l
-  → visitBy NoTurn l r x ≡ served (turnOpened (roundStarted r) (getD l 0 0) (headAllowance r x)) (surplusCleared x) (getD l 0 0) (headAllowance r x) 0
+    → visitBy NoTurn l r x ≡ served (turnOpened (roundStarted r) (getD l 0 0) (headAllowance r x)) (surplusCleared x) (getD l 0 0) (headAllowance r x) 0
 unfolding visitBy
 visit-of-head [] r x h = absurd (omega arith)
 visit-of-head (f ∷ l) r x h = refl
@@ -109,42 +109,45 @@ module _ (r : RoundCell) (x : FlowCell) (h : MayBegin r x) where
           record {
             round-ready = opened-ready;
             has-first =
-              record {
-                form = clear-ready .form;
-                rules = clear-ready .rules;
-                waits = omega (arith, ap (λ (c : FlowCell). c .waiting) k, waiting-is x (h .has-first .form), h .has-first .waits)
-              };
+                record {
+                  form = clear-ready .form;
+                  rules = clear-ready .rules;
+                  waits = omega (arith, ap (λ (c : FlowCell). c .waiting) k, waiting-is x (h .has-first .form), h .has-first .waits);
+                };
             weighs = omega (arith, ap (λ (c : FlowCell). c .weight) k, h .weighs);
             no-surplus = ap (λ (c : FlowCell). c .surplus) k;
             line-has-room = omega (arith, ap (λ (c : RoundCell). c .length) o, one-less, now-some, now-ready .line-fits);
             a-visit-left = omega (arith, visits-are, some-visit (r .visits) (length (viewRound r .line)) some-stand);
             allowed-in-range = omega (arith, mul-le-mul (may-allow .0) (may-allow .1));
-            more-may-be-sent = omega (arith, may-allow .2, h .weighs)
+            more-may-be-sent = omega (arith, may-allow .2, h .weighs);
           }
 
       pub begun-law : (v : Visited) → f ≡ getD (r .line) 0 0 → v ≡ encodeVisit (served (viewRound opened) (viewFlow clear) f allowed 0)
-        → v ≡ encodeVisit (visitBy NoTurn (viewRound r .line) (viewRound r) (viewFlow x))
+          → v ≡ encodeVisit (visitBy NoTurn (viewRound r .line) (viewRound r) (viewFlow x))
       unfolding viewFlow
       begun-law v g e =
           e ∙ ap encodeVisit (rw (opened-seen, clear-seen, allowed-seen, head) (sym (visit-of-head (viewRound r .line) (viewRound r) (viewFlow x) some-stand)))
         where
           opened-seen : viewRound opened ≡ turnOpened (roundStarted (viewRound r)) f allowed
           opened-seen = ap viewRound o ∙ round-seen (turnOpened (viewRound now) f allowed) ∙ ap (λ (m : Round). turnOpened m f allowed) now-seen
+
           clear-seen : viewFlow clear ≡ surplusCleared (viewFlow x)
           clear-seen = ap viewFlow k ∙ flow-seen (surplusCleared (viewFlow x)) (clear-rules .sizes-in-range)
+
           allowed-seen : allowed ≡ headAllowance (viewRound r) (viewFlow x)
           allowed-seen = a ∙ ap (λ (m : ℕ). allowance (x .weight) m (x .surplus)) mark-is
+
           head : f ≡ getD (viewRound r .line) 0 0
           head = g ∙ head-is r (h .round-ready .form)
 
 -- Which of the model's cases a visit is, by the turn.
 pub turn-law : (r : RoundCell) (x : FlowCell) (f allowed sent : ℕ) → r .turn ≡ Turn f allowed sent
-  → visit (viewRound r) (viewFlow x) ≡ served (viewRound r) (viewFlow x) f allowed sent
+    → visit (viewRound r) (viewFlow x) ≡ served (viewRound r) (viewFlow x) f allowed sent
 unfolding visit visitBy viewRound
 turn-law r x f allowed sent t = ap (λ (u : Serving). visitBy u (viewRound r .line) (viewRound r) (viewFlow x)) t
 
 pub head-law : (r : RoundCell) (x : FlowCell) → r .turn ≡ NoTurn
-  → visit (viewRound r) (viewFlow x) ≡ visitBy NoTurn (viewRound r .line) (viewRound r) (viewFlow x)
+    → visit (viewRound r) (viewFlow x) ≡ visitBy NoTurn (viewRound r .line) (viewRound r) (viewFlow x)
 unfolding visit viewRound
 head-law r x t = ap (λ (u : Serving). visitBy u (viewRound r .line) (viewRound r) (viewFlow x)) t
 
@@ -154,7 +157,7 @@ nobody (f ∷ l) e = absurd (omega arith)
 
 -- With no open turn and nobody in line it is idle.
 pub idle-law : (r : RoundCell) (x : FlowCell) → MayVisit r x → r .turn ≡ NoTurn → r .length ≡ 0
-  → record { round = r; flow = x; reply = Idle } ≡ encodeVisit (visit (viewRound r) (viewFlow x))
+    → record { round = r; flow = x; reply = Idle } ≡ encodeVisit (visit (viewRound r) (viewFlow x))
 unfolding encodeVisit visitBy
 idle-law r x h t e =
     same-visit (h .round-ready .form) (h .flow-form) refl

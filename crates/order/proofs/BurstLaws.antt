@@ -48,7 +48,7 @@ underway-first c n list S h =
       sound = S;
       same-end = ap (λ (k : ℕ). departures k (view c) .state) all;
       same-numbers = ap (λ (k : ℕ). flowNumbers (departures k (view c) .sent)) all;
-      rest-unchanged = refl
+      rest-unchanged = refl;
     }
   where
     all : n ≡ n - 0
@@ -67,7 +67,7 @@ module _ (s : Scheduler) (n : ℕ) (before : List ℕ) (c : State) (made : ℕ) 
   after-seen c′ e = ap view e ∙ seen (departed (view c) .state) (departed-keeps (view c) (U .sound .rules))
 
   pub one-more-made : (c′ : State) (d : Sent) → made < n → c′ ≡ encode (departed (view c) .state) → departed (view c) .reply ≡ Departure d
-    → Underway s n before c′ (made + 1) (set list made (d .flow))
+      → Underway s n before c′ (made + 1) (set list made (d .flow))
   unfolding andThen
   one-more-made c′ d h e reply =
       record {
@@ -77,25 +77,27 @@ module _ (s : Scheduler) (n : ℕ) (before : List ℕ) (c : State) (made : ℕ) 
         sound = subst Sound (sym e) after-sound;
         same-end = U .same-end ∙ ap (λ (k : Departures). k .state) split;
         same-numbers =
-          U .same-numbers
-          ∙ ap (λ (k : Departures). take made list ++ flowNumbers (k .sent)) split
-          ∙ sym (append-snoc (take made list) (d .flow) (flowNumbers (departures (n - (made + 1)) (view c′) .sent)))
-          ∙ ap (λ (l : List ℕ). l ++ flowNumbers (departures (n - (made + 1)) (view c′) .sent)) (sym written);
+            U .same-numbers
+            ∙ ap (λ (k : Departures). take made list ++ flowNumbers (k .sent)) split
+            ∙ sym (append-snoc (take made list) (d .flow) (flowNumbers (departures (n - (made + 1)) (view c′) .sent)))
+            ∙ ap (λ (l : List ℕ). l ++ flowNumbers (departures (n - (made + 1)) (view c′) .sent)) (sym written);
         rest-unchanged =
-          drop-set-lt (made + 1) list made (d .flow) (omega arith)
-          ∙ sym (drop-drop 1 made list)
-          ∙ ap (drop 1) (U .rest-unchanged)
-          ∙ drop-drop 1 made before
+            drop-set-lt (made + 1) list made (d .flow) (omega arith)
+            ∙ sym (drop-drop 1 made list)
+            ∙ ap (drop 1) (U .rest-unchanged)
+            ∙ drop-drop 1 made before;
       }
     where
       one : n - made ≡ suc (n - (made + 1))
       one = omega arith
+
       split : departures (n - made) (view c) ≡ record { state = departures (n - (made + 1)) (view c′) .state; sent = d ∷ departures (n - (made + 1)) (view c′) .sent }
       split =
           ap (λ (k : ℕ). departures k (view c)) one
           ∙ departures-first (n - (made + 1)) (view c)
           ∙ ap (λ (r : Reply). andThen r (departed (view c) .state) (departures (n - (made + 1)) (departed (view c) .state))) reply
           ∙ ap (λ (t : Scheduler). record { state = departures (n - (made + 1)) t .state; sent = d ∷ departures (n - (made + 1)) t .sent }) (sym (after-seen c′ e))
+
       written : take (made + 1) (set list made (d .flow)) ≡ take made list ++ (d .flow ∷ [])
       written = ap (λ (k : ℕ). take k (set list made (d .flow))) (add-one made) ∙ take-suc-set list made (d .flow) (omega (arith, U .list-fits, U .same-length))
 
@@ -115,13 +117,13 @@ module _ (s : Scheduler) (n : ℕ) (before : List ℕ) (c : State) (made : ℕ) 
     burst-ends c₀ same =
         record {
           outcome =
-            ap₂ (λ (t : State) (k : ℕ). record { state = t; count = Made k }) (end ∙ ap encode (sym (U .same-end))) (sym how-many)
-            ∙ ap countedAs (sym made-here);
+              ap₂ (λ (t : State) (k : ℕ). record { state = t; count = Made k }) (end ∙ ap encode (sym (U .same-end))) (sym how-many)
+              ∙ ap countedAs (sym made-here);
           written =
-            sym (take-append-drop made list)
-            ∙ ap₂ (λ (a b : List ℕ). a ++ b) (sym all-written) (U .rest-unchanged ∙ ap (λ (k : ℕ). drop k before) (sym how-many))
-            ∙ ap (λ (b : Burst). b .list) (sym made-here);
-          sound = S
+              sym (take-append-drop made list)
+              ∙ ap₂ (λ (a b : List ℕ). a ++ b) (sym all-written) (U .rest-unchanged ∙ ap (λ (k : ℕ). drop k before) (sym how-many))
+              ∙ ap (λ (b : Burst). b .list) (sym made-here);
+          sound = S;
         }
       where
         made-here : burst (view c₀) n before ≡ burstMade before (departures n s)
@@ -142,7 +144,7 @@ module _ (s : Scheduler) (n : ℕ) (before : List ℕ) (c : State) (made : ℕ) 
 
 -- A reply whose kind is none of a departure's ends the burst.
 pub no-departure-ends : (r : Reply) → OneOf (1 ∷ 2 ∷ []) (tagOf the-type r) → (s : Scheduler) (more : Departures)
-  → andThen r s more ≡ record { state = s; sent = [] }
+    → andThen r s more ≡ record { state = s; sent = [] }
 unfolding andThen
 no-departure-ends (Departure d) k s more = ⊎-elim (λ (e : 0 ≡ 1). absurd (omega arith)) (λ (e : 0 ≡ 2). absurd (omega arith)) k
 no-departure-ends Idle k s more = refl
@@ -150,7 +152,7 @@ no-departure-ends (Refused n) k s more = refl
 
 module _ (s : Scheduler) (n : ℕ) (before : List ℕ) (c : State) (made : ℕ) (list : List ℕ) (U : Underway s n before c made list) where
   pub stopped : (c′ : State) (r : Reply) → made < n → c′ ≡ encode (departed (view c) .state) → departed (view c) .reply ≡ r
-    → OneOf (1 ∷ 2 ∷ []) (tagOf the-type r) → (c₀ : State) → view c₀ ≡ s → BurstGives c₀ n before list (record { state = c′; count = Made made })
+      → OneOf (1 ∷ 2 ∷ []) (tagOf the-type r) → (c₀ : State) → view c₀ ≡ s → BurstGives c₀ n before list (record { state = c′; count = Made made })
   stopped c′ r h e reply kind =
       burst-ends s n before c made list U c′
       (subst Sound (sym e) (sound-of (departed (view c) .state) (departed-keeps (view c) (U .sound .rules))))
@@ -159,6 +161,7 @@ module _ (s : Scheduler) (n : ℕ) (before : List ℕ) (c : State) (made : ℕ) 
     where
       one : n - made ≡ suc (n - (made + 1))
       one = omega arith
+
       split : departures (n - made) (view c) ≡ record { state = departed (view c) .state; sent = [] }
       split =
           ap (λ (k : ℕ). departures k (view c)) one
@@ -173,7 +176,7 @@ burst-refused c n list S h =
     record {
       outcome = ap (λ (t : State). record { state = t; count = CountRefused 9 }) (S .form) ∙ ap countedAs (sym refused-here);
       written = ap (λ (b : Burst). b .list) (sym refused-here);
-      sound = S
+      sound = S;
     }
   where
     refused-here : burst (view c) n list ≡ record { state = view c; list = list; reply = CountRefused 9 }

@@ -58,7 +58,7 @@ pub flow-ready : (x : Flow) → FlowRules x → FlowReady (encodeFlow x)
 flow-ready x R =
     record {
       form = ap encodeFlow (sym (flow-seen x (R .sizes-in-range)));
-      rules = subst FlowRules (sym (flow-seen x (R .sizes-in-range))) R
+      rules = subst FlowRules (sym (flow-seen x (R .sizes-in-range))) R;
     }
 
 -- What a flow's cell has, by what it stands for.
@@ -70,7 +70,6 @@ module _ (x : FlowCell) (form : x ≡ encodeFlow (viewFlow x)) where
   pub sizes-are : x .sizes ≡ cells queueLimit (map pred (viewFlow x .queue))
   unfolding encodeFlow
   sizes-are = ap (λ (c : FlowCell). c .sizes) form
-
 
 -- What a round's cell has, by what it stands for.
 module _ (r : RoundCell) (form : r ≡ encodeRound (viewRound r)) where

@@ -17,7 +17,7 @@ use Rattle.order.proofs.Encoded.{cells-joined, cells-left, waiting-is, 
 
 -- Two flows' cells with equal parts are equal.
 same-cell : {w w′ σ σ′ k k′ n n′ : ℕ} {l l′ : List ℕ} → w ≡ w′ → σ ≡ σ′ → k ≡ k′ → n ≡ n′ → l ≡ l′
-  → _≡_ {A = FlowCell} (record { weight = w; surplus = σ; slot = k; waiting = n; sizes = l }) (record { weight = w′; surplus = σ′; slot = k′; waiting = n′; sizes = l′ })
+    → _≡_ {A = FlowCell} (record { weight = w; surplus = σ; slot = k; waiting = n; sizes = l }) (record { weight = w′; surplus = σ′; slot = k′; waiting = n′; sizes = l′ })
 same-cell a b c d e = λ i. record { weight = a i; surplus = b i; slot = c i; waiting = d i; sizes = e i }
 
 map-joined : (q : List ℕ) (p : ℕ) → map pred (q ++ (p ∷ [])) ≡ map pred q ++ (pred p ∷ [])
@@ -35,14 +35,14 @@ waiting-by-count (p ∷ q) a b d = refl
 
 -- Storing one less than a size behind the last.
 size-stored : (q l : List ℕ) (n size : ℕ) → l ≡ cells queueLimit (map pred q) → n ≡ length q → n < queueLimit
-  → set l n (size - 1) ≡ cells queueLimit (map pred (q ++ (size ∷ [])))
+    → set l n (size - 1) ≡ cells queueLimit (map pred (q ++ (size ∷ [])))
 size-stored q l n size e k h =
     rw (e, k, ← length-map q pred, map-joined, sub-one)
     (cells-joined queueLimit (map pred q) (pred size) (omega (arith, length-map q pred)))
 
 -- Taking the first out.
 first-taken : (q l : List ℕ) → l ≡ cells queueLimit (map pred q) → 0 < length q → length q ≤ queueLimit
-  → drop 1 l ++ (0 ∷ []) ≡ cells queueLimit (map pred (drop 1 q))
+    → drop 1 l ++ (0 ∷ []) ≡ cells queueLimit (map pred (drop 1 q))
 first-taken [] l e h b = absurd (omega arith)
 first-taken (p ∷ q) l e h b = rw e (cells-left queueLimit (pred p) (map pred q) (omega (arith, length-map q pred)))
 
@@ -64,15 +64,15 @@ module _ (x : FlowCell) (size : ℕ) (h : HasRoom x size) where
   one-more = omega (arith, waiting-is x (h .form), length-append (viewFlow x .queue) (size ∷ []))
 
   pub joined-first : x .waiting ≡ 0
-    → record { weight = x .weight; surplus = 0; slot = x .slot; waiting = 1; sizes = set (x .sizes) (x .waiting) (size - 1) }
-    ≡ encodeFlow (packetJoined (viewFlow x) size)
+      → record { weight = x .weight; surplus = 0; slot = x .slot; waiting = 1; sizes = set (x .sizes) (x .waiting) (size - 1) }
+      ≡ encodeFlow (packetJoined (viewFlow x) size)
   unfolding encodeFlow packetJoined viewFlow
   joined-first e =
       same-cell refl (sym (empty-by-count (viewFlow x .queue) 0 (x .surplus) (omega (arith, waiting-is x (h .form))))) refl (omega (arith, one-more)) stored-sizes
 
   pub joined-behind : (x .waiting ≡ 0 → ⊥)
-    → record { weight = x .weight; surplus = x .surplus; slot = x .slot; waiting = x .waiting + 1; sizes = set (x .sizes) (x .waiting) (size - 1) }
-    ≡ encodeFlow (packetJoined (viewFlow x) size)
+      → record { weight = x .weight; surplus = x .surplus; slot = x .slot; waiting = x .waiting + 1; sizes = set (x .sizes) (x .waiting) (size - 1) }
+      ≡ encodeFlow (packetJoined (viewFlow x) size)
   unfolding encodeFlow packetJoined viewFlow
   joined-behind d =
       same-cell refl (sym (waiting-by-count (viewFlow x .queue) 0 (x .surplus) (λ e. d (waiting-is x (h .form) ∙ e)))) refl one-more stored-sizes
@@ -80,25 +80,25 @@ module _ (x : FlowCell) (size : ℕ) (h : HasRoom x size) where
 module _ (x : FlowCell) (h : FlowReady x) where
   -- A change of the surplus alone.
   with-surplus : (σ : ℕ) → record { weight = x .weight; surplus = σ; slot = x .slot; waiting = x .waiting; sizes = x .sizes }
-    ≡ encodeFlow (record { weight = viewFlow x .weight; surplus = σ; slot = viewFlow x .slot; queue = viewFlow x .queue })
+      ≡ encodeFlow (record { weight = viewFlow x .weight; surplus = σ; slot = viewFlow x .slot; queue = viewFlow x .queue })
   unfolding encodeFlow viewFlow
   with-surplus σ = same-cell refl refl refl (waiting-is x (h .form)) (sizes-are x (h .form))
 
   pub cleared-law : record { weight = x .weight; surplus = 0; slot = x .slot; waiting = x .waiting; sizes = x .sizes }
-    ≡ encodeFlow (surplusCleared (viewFlow x))
+      ≡ encodeFlow (surplusCleared (viewFlow x))
   unfolding surplusCleared
   cleared-law = with-surplus 0
 
   pub none-left-law : (allowed sent : ℕ) → x .waiting ≡ 0
-    → record { weight = x .weight; surplus = 0; slot = x .slot; waiting = x .waiting; sizes = x .sizes }
-    ≡ encodeFlow (excessKept (viewFlow x) allowed sent)
+      → record { weight = x .weight; surplus = 0; slot = x .slot; waiting = x .waiting; sizes = x .sizes }
+      ≡ encodeFlow (excessKept (viewFlow x) allowed sent)
   unfolding excessKept
   none-left-law allowed sent e =
       rw (empty-by-count (viewFlow x .queue) 0 (sent - allowed) (omega (arith, waiting-is x (h .form)))) (with-surplus 0)
 
   pub some-left-law : (allowed sent : ℕ) → (x .waiting ≡ 0 → ⊥)
-    → record { weight = x .weight; surplus = sent - allowed; slot = x .slot; waiting = x .waiting; sizes = x .sizes }
-    ≡ encodeFlow (excessKept (viewFlow x) allowed sent)
+      → record { weight = x .weight; surplus = sent - allowed; slot = x .slot; waiting = x .waiting; sizes = x .sizes }
+      ≡ encodeFlow (excessKept (viewFlow x) allowed sent)
   unfolding excessKept
   some-left-law allowed sent d =
       rw (waiting-by-count (viewFlow x .queue) 0 (sent - allowed) (λ e. d (waiting-is x (h .form) ∙ e))) (with-surplus (sent - allowed))
@@ -114,8 +114,8 @@ module _ (x : FlowCell) (h : HasFirst x) where
   first-size-small = first-small (viewFlow x .queue) (h .rules .sizes-in-range)
 
   pub first-left-law : (sizes : List ℕ) → sizes ≡ drop 1 (x .sizes) ++ (0 ∷ [])
-    → record { weight = x .weight; surplus = x .surplus; slot = (x .slot + 1) % queueLimit; waiting = x .waiting - 1; sizes = sizes }
-    ≡ encodeFlow (firstLeft (viewFlow x))
+      → record { weight = x .weight; surplus = x .surplus; slot = (x .slot + 1) % queueLimit; waiting = x .waiting - 1; sizes = sizes }
+      ≡ encodeFlow (firstLeft (viewFlow x))
   unfolding encodeFlow firstLeft viewFlow
   first-left-law sizes e =
       same-cell refl refl refl

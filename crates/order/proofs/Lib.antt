@@ -9,3 +9,5 @@ pub mod BeginLaws
 pub mod AskLaws
 pub mod StateLaws
 pub mod BurstLaws
+pub mod Settled
+pub mod Follows

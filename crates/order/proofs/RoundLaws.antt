@@ -21,8 +21,8 @@ use Rattle.order.proofs.FlowLaws.{empty-by-count, waiting-by-count}
 
 -- Two rounds' cells with equal parts are equal.
 pub same-round : {l l′ : List ℕ} {n n′ v v′ m m′ k k′ : ℕ} {t t′ : Serving} → l ≡ l′ → n ≡ n′ → v ≡ v′ → m ≡ m′ → k ≡ k′ → t ≡ t′
-  → _≡_ {A = RoundCell} (record { line = l; length = n; visits = v; mark = m; running = k; turn = t })
-  (record { line = l′; length = n′; visits = v′; mark = m′; running = k′; turn = t′ })
+    → _≡_ {A = RoundCell} (record { line = l; length = n; visits = v; mark = m; running = k; turn = t })
+    (record { line = l′; length = n′; visits = v′; mark = m′; running = k′; turn = t′ })
 same-round a b c d e f = λ i. record { line = a i; length = b i; visits = c i; mark = d i; running = e i; turn = f i }
 
 -- Storing a flow number behind the last; taking the first out.
@@ -44,15 +44,15 @@ positive-chosen (suc n) a b d = refl
 module _ (r : RoundCell) (h : RoundReady r) where
   -- The round as it is seen, with other numbers.
   pub renumbered : (v m k : ℕ) (t : Serving)
-    → record { line = r .line; length = r .length; visits = v; mark = m; running = k; turn = t }
-    ≡ encodeRound (record { line = viewRound r .line; visits = v; mark = m; running = k; turn = t })
+      → record { line = r .line; length = r .length; visits = v; mark = m; running = k; turn = t }
+      ≡ encodeRound (record { line = viewRound r .line; visits = v; mark = m; running = k; turn = t })
   unfolding encodeRound
   renumbered v m k t = same-round (line-is r (h .form)) (length-is r (h .form)) refl refl refl refl
 
   -- The same with a flow at the end of the line.
   pub lengthened : (f v m k : ℕ) (t : Serving) → r .length < flowLimit
-    → record { line = set (r .line) (r .length) f; length = r .length + 1; visits = v; mark = m; running = k; turn = t }
-    ≡ encodeRound (record { line = viewRound r .line ++ (f ∷ []); visits = v; mark = m; running = k; turn = t })
+      → record { line = set (r .line) (r .length) f; length = r .length + 1; visits = v; mark = m; running = k; turn = t }
+      ≡ encodeRound (record { line = viewRound r .line ++ (f ∷ []); visits = v; mark = m; running = k; turn = t })
   unfolding encodeRound
   lengthened f v m k t b =
       same-round
@@ -61,8 +61,8 @@ module _ (r : RoundCell) (h : RoundReady r) where
       refl refl refl refl
 
   pub started-law : r .visits ≡ 0
-    → record { line = r .line; length = r .length; visits = r .length; mark = r .running; running = 0; turn = r .turn }
-    ≡ encodeRound (roundStarted (viewRound r))
+      → record { line = r .line; length = r .length; visits = r .length; mark = r .running; running = 0; turn = r .turn }
+      ≡ encodeRound (roundStarted (viewRound r))
   unfolding roundStarted encodeRound viewRound
   started-law e =
       same-round (line-is r (h .form)) (length-is r (h .form))
@@ -81,8 +81,8 @@ module _ (r : RoundCell) (h : RoundReady r) where
       refl
 
   pub opened-law : (f allowed : ℕ) (line : List ℕ) → 0 < r .length → line ≡ drop 1 (r .line) ++ (0 ∷ [])
-    → record { line = line; length = r .length - 1; visits = r .visits; mark = r .mark; running = r .running; turn = Turn f allowed 0 }
-    ≡ encodeRound (turnOpened (viewRound r) f allowed)
+      → record { line = line; length = r .length - 1; visits = r .visits; mark = r .mark; running = r .running; turn = Turn f allowed 0 }
+      ≡ encodeRound (turnOpened (viewRound r) f allowed)
   unfolding turnOpened encodeRound viewRound
   opened-law f allowed line b e =
       same-round
@@ -91,15 +91,15 @@ module _ (r : RoundCell) (h : RoundReady r) where
       refl refl refl refl
 
   pub kept-law : (f allowed sent : ℕ)
-    → record { line = r .line; length = r .length; visits = r .visits; mark = r .mark; running = r .running; turn = Turn f allowed sent }
-    ≡ encodeRound (turnKept (viewRound r) f allowed sent)
+      → record { line = r .line; length = r .length; visits = r .visits; mark = r .mark; running = r .running; turn = Turn f allowed sent }
+      ≡ encodeRound (turnKept (viewRound r) f allowed sent)
   unfolding turnKept viewRound
   kept-law f allowed sent = renumbered (r .visits) (r .mark) (r .running) (Turn f allowed sent)
 
   module _ (x : FlowCell) (ready : FlowReady x) where
     pub lined-law : (f : ℕ) → x .waiting ≡ 0 → r .length < flowLimit
-      → record { line = set (r .line) (r .length) f; length = r .length + 1; visits = r .visits; mark = r .mark; running = r .running; turn = r .turn }
-      ≡ encodeRound (flowLined (viewRound r) f (viewFlow x))
+        → record { line = set (r .line) (r .length) f; length = r .length + 1; visits = r .visits; mark = r .mark; running = r .running; turn = r .turn }
+        ≡ encodeRound (flowLined (viewRound r) f (viewFlow x))
     unfolding flowLined viewRound
     lined-law f e b =
         rw (empty-by-count (viewFlow x .queue) (viewRound r .line ++ (f ∷ [])) (viewRound r .line) (sym (waiting-is x (ready .form)) ∙ e))
@@ -112,16 +112,16 @@ module _ (r : RoundCell) (h : RoundReady r) where
         (renumbered (r .visits) (r .mark) (r .running) (r .turn))
 
     pub emptied-law : (f allowed sent running : ℕ) → running ≡ raised (r .running) (x .weight) allowed sent → x .waiting ≡ 0
-      → record { line = r .line; length = r .length; visits = r .visits - 1; mark = r .mark; running = running; turn = NoTurn }
-      ≡ encodeRound (turnClosed (viewRound r) (viewFlow x) f allowed sent)
+        → record { line = r .line; length = r .length; visits = r .visits - 1; mark = r .mark; running = running; turn = NoTurn }
+        ≡ encodeRound (turnClosed (viewRound r) (viewFlow x) f allowed sent)
     unfolding turnClosed viewRound viewFlow
     emptied-law f allowed sent running m e =
         rw (m, empty-by-count (viewFlow x .queue) (viewRound r .line) (viewRound r .line ++ (f ∷ [])) (sym (waiting-is x (ready .form)) ∙ e))
         (renumbered (r .visits - 1) (r .mark) (raised (r .running) (x .weight) allowed sent) NoTurn)
 
     pub rejoined-law : (f allowed sent running : ℕ) → running ≡ raised (r .running) (x .weight) allowed sent → (x .waiting ≡ 0 → ⊥) → r .length < flowLimit
-      → record { line = set (r .line) (r .length) f; length = r .length + 1; visits = r .visits - 1; mark = r .mark; running = running; turn = NoTurn }
-      ≡ encodeRound (turnClosed (viewRound r) (viewFlow x) f allowed sent)
+        → record { line = set (r .line) (r .length) f; length = r .length + 1; visits = r .visits - 1; mark = r .mark; running = running; turn = NoTurn }
+        ≡ encodeRound (turnClosed (viewRound r) (viewFlow x) f allowed sent)
     unfolding turnClosed viewRound viewFlow
     rejoined-law f allowed sent running m d b =
         rw (m, waiting-by-count (viewFlow x .queue) (viewRound r .line) (viewRound r .line ++ (f ∷ [])) (λ e. d (waiting-is x (ready .form) ∙ e)))

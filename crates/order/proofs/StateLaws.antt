@@ -93,12 +93,12 @@ module _ (c : State) (S : Sound c) where
         form = round-form;
         line-fits = omega (arith, length-is (c .round) round-form, R .line-in-range);
         mark-in-range = R .mark-in-range;
-        running-in-range = R .running-in-range
+        running-in-range = R .running-in-range;
       }
 
   -- One flow put back, with a round.
   pub put-law : (f : ℕ) (x : FlowCell) (r : RoundCell) (y : Flow) (q : Round) → x ≡ encodeFlow y → r ≡ encodeRound q
-    → record { flows = set (c .flows) f x; round = r } ≡ encode (put (view c) f y q)
+      → record { flows = set (c .flows) f x; round = r } ≡ encode (put (view c) f y q)
   unfolding encode put
   put-law f x r y q a b =
       ap₂ (λ (l : List FlowCell) (k : RoundCell). record { flows = l; round = k })
@@ -123,7 +123,7 @@ module _ (c : State) (S : Sound c) where
         record {
           form = cell-ready f h .form;
           rules = cell-ready f h .rules;
-          waits = omega (arith, count-is, some (flowAt (view c) f .queue) waits)
+          waits = omega (arith, count-is, some (flowAt (view c) f .queue) waits);
         }
       where
         some : (q : List ℕ) → (q ≡ [] → ⊥) → 0 < length q
@@ -137,7 +137,7 @@ module _ (c : State) (S : Sound c) where
     at-in-reach = rw e (whose-in-reach (view c) (S .rules))
 
     turn-ready : (f allowed sent : ℕ) → c .round .turn ≡ Turn f allowed sent → TurnFacts (view c) f allowed sent → at ≡ f
-      → MayServe (c .round) (getD (c .flows) at noCell) allowed sent
+        → MayServe (c .round) (getD (c .flows) at noCell) allowed sent
     unfolding view viewRound
     turn-ready f allowed sent t T same =
         record {
@@ -148,7 +148,7 @@ module _ (c : State) (S : Sound c) where
           line-has-room = omega (arith, length-is (c .round) round-form, T .line-has-room);
           a-visit-left = T .a-visit-left;
           allowed-in-range = T .allowed-in-range;
-          more-may-be-sent = T .more-may-be-sent
+          more-may-be-sent = T .more-may-be-sent;
         }
 
     head-ready : HeadFacts (view c) at → (c .round .length ≡ 0 → ⊥) → MayBegin (c .round) (getD (c .flows) at noCell)
@@ -159,7 +159,7 @@ module _ (c : State) (S : Sound c) where
           some-in-line = omega arith;
           has-first = has-first-at at at-in-reach (H .waits);
           weighs = rw (weight-is at at-in-reach) (H .weighs);
-          owed = rw (surplus-is at at-in-reach, weight-is at at-in-reach) (H .owed)
+          owed = rw (surplus-is at at-in-reach, weight-is at at-in-reach) (H .owed);
         }
 
     pub may-visit : MayVisit (c .round) (getD (c .flows) at noCell)
@@ -169,7 +169,7 @@ module _ (c : State) (S : Sound c) where
           round-ready = round-of-sound;
           flow-form = cell-ready at at-in-reach .form;
           in-turn = λ f allowed sent t. turn-ready f allowed sent t (turn-facts (view c) (S .rules) f allowed sent t) (e ∙ ap (λ (u : Serving). whoseTurn u (view c .round .line)) t);
-          at-head = λ t d. head-ready (rw (e ∙ ap (λ (u : Serving). whoseTurn u (view c .round .line)) t) (head-facts (view c) (S .rules) t (omega (arith, length-is (c .round) round-form)))) d
+          at-head = λ t d. head-ready (rw (e ∙ ap (λ (u : Serving). whoseTurn u (view c .round .line)) t) (head-facts (view c) (S .rules) t (omega (arith, length-is (c .round) round-form)))) d;
         }
 
     module _ (v : Visited) (g : v ≡ encodeVisit (visit (viewRound (c .round)) (viewFlow (getD (c .flows) at noCell)))) where
@@ -197,7 +197,7 @@ module _ (c : State) (S : Sound c) where
       departed-gives =
           record {
             outcome = ap₂ (λ (t : State) (d : Reply). record { state = t; reply = d }) departed-state departed-reply;
-            sound = subst Sound (sym departed-state) (sound-of (departed (view c) .state) (departed-keeps (view c) (S .rules)))
+            sound = subst Sound (sym departed-state) (sound-of (departed (view c) .state) (departed-keeps (view c) (S .rules)));
           }
 
   -- Open and offer: a number that no flow has is refused whatever flow is looked at.
@@ -205,7 +205,7 @@ module _ (c : State) (S : Sound c) where
     pub place-in-reach : at < flowLimit
     place-in-reach =
         elim (decLt f flowLimit) [
-          yes b ↦ rw (e ∙ ap (λ (t : Bool). cond t f 0) (lt-ltb f flowLimit b)) b
+          | yes b ↦ rw (e ∙ ap (λ (t : Bool). cond t f 0) (lt-ltb f flowLimit b)) b
           | no b ↦ rw (e ∙ ap (λ (t : Bool). cond t f 0) (le-ltb f flowLimit (omega arith))) (omega arith)
         ]
 
@@ -214,7 +214,7 @@ module _ (c : State) (S : Sound c) where
 
     -- Where a call is refused one flow is put back as it was, and otherwise its own is put anew.
     put-unless : (n : ℕ) (y : Flow) (q : Round) → (n ≡ 0 → at ≡ f)
-      → put (view c) at (ifZero n y (flowAt (view c) at)) (ifZero n q (view c .round)) ≡ ifZero n (put (view c) f y q) (view c)
+        → put (view c) at (ifZero n y (flowAt (view c) at)) (ifZero n q (view c .round)) ≡ ifZero n (put (view c) f y q) (view c)
     put-unless zero y q h = ap (λ (k : ℕ). put (view c) k y q) (h refl)
     put-unless (suc n) y q h = put-back (view c) at
 
@@ -226,31 +226,31 @@ module _ (c : State) (S : Sound c) where
       effect-here : ρ looked-at ≡ 0 → at ≡ f
       effect-here z =
           elim (decLt f flowLimit) [
-            yes b ↦ place-is b
+            | yes b ↦ place-is b
             | no b ↦ absurd (omega (arith, refuses looked-at (omega arith)))
           ]
 
       same-effect : ifZero (ρ looked-at) (put (view c) f (flow looked-at) (round looked-at)) (view c)
-        ≡ ifZero (ρ (flowAt (view c) f)) (put (view c) f (flow (flowAt (view c) f)) (round (flowAt (view c) f))) (view c)
+          ≡ ifZero (ρ (flowAt (view c) f)) (put (view c) f (flow (flowAt (view c) f)) (round (flowAt (view c) f))) (view c)
       same-effect =
           elim (decLt f flowLimit) [
-            yes b ↦ ap (λ (k : ℕ). ifZero (ρ (flowAt (view c) k)) (put (view c) f (flow (flowAt (view c) k)) (round (flowAt (view c) k))) (view c)) (place-is b)
+            | yes b ↦ ap (λ (k : ℕ). ifZero (ρ (flowAt (view c) k)) (put (view c) f (flow (flowAt (view c) k)) (round (flowAt (view c) k))) (view c)) (place-is b)
             | no b ↦
-              positive-chosen (ρ looked-at) (put (view c) f (flow looked-at) (round looked-at)) (view c) (λ z. omega (arith, refuses looked-at (omega arith)))
-              ∙ sym (positive-chosen (ρ (flowAt (view c) f)) (put (view c) f (flow (flowAt (view c) f)) (round (flowAt (view c) f))) (view c) (λ z. omega (arith, refuses (flowAt (view c) f) (omega arith))))
+                positive-chosen (ρ looked-at) (put (view c) f (flow looked-at) (round looked-at)) (view c) (λ z. omega (arith, refuses looked-at (omega arith)))
+                ∙ sym (positive-chosen (ρ (flowAt (view c) f)) (put (view c) f (flow (flowAt (view c) f)) (round (flowAt (view c) f))) (view c) (λ z. omega (arith, refuses (flowAt (view c) f) (omega arith))))
           ]
 
       same-number : ρ looked-at ≡ ρ (flowAt (view c) f)
       same-number =
           elim (decLt f flowLimit) [
-            yes b ↦ ap (λ (k : ℕ). ρ (flowAt (view c) k)) (place-is b)
+            | yes b ↦ ap (λ (k : ℕ). ρ (flowAt (view c) k)) (place-is b)
             | no b ↦ refuses looked-at (omega arith) ∙ sym (refuses (flowAt (view c) f) (omega arith))
           ]
 
       module _ (a : Asked) (x : Flow) (i : x ≡ looked-at) (g : a .flow ≡ encodeFlow (ifZero (ρ x) (flow x) x))
           (h : a .round ≡ encodeRound (ifZero (ρ x) (round x) (view c .round))) (k : a .answer ≡ answerOf (ρ x)) where
         asked-state : record { flows = set (c .flows) at (a .flow); round = a .round }
-          ≡ encode (unlessRefused (ρ (flowAt (view c) f)) (view c) (put (view c) f (flow (flowAt (view c) f)) (round (flowAt (view c) f))) .state)
+            ≡ encode (unlessRefused (ρ (flowAt (view c) f)) (view c) (put (view c) f (flow (flowAt (view c) f)) (round (flowAt (view c) f))) .state)
         unfolding unlessRefused
         asked-state =
             put-law at (a .flow) (a .round) (ifZero (ρ x) (flow x) x) (ifZero (ρ x) (round x) (view c .round)) g h
@@ -260,12 +260,12 @@ module _ (c : State) (S : Sound c) where
             ∙ same-effect)
 
         asked-answer : a .answer
-          ≡ unlessRefused (ρ (flowAt (view c) f)) (view c) (put (view c) f (flow (flowAt (view c) f)) (round (flowAt (view c) f))) .reply
+            ≡ unlessRefused (ρ (flowAt (view c) f)) (view c) (put (view c) f (flow (flowAt (view c) f)) (round (flowAt (view c) f))) .reply
         unfolding unlessRefused
         asked-answer = k ∙ ap (λ (y : Flow). answerOf (ρ y)) i ∙ ap answerOf same-number
 
         asked-outcome : record { state = record { flows = set (c .flows) at (a .flow); round = a .round }; answer = a .answer }
-          ≡ answeredAs (unlessRefused (ρ (flowAt (view c) f)) (view c) (put (view c) f (flow (flowAt (view c) f)) (round (flowAt (view c) f))))
+            ≡ answeredAs (unlessRefused (ρ (flowAt (view c) f)) (view c) (put (view c) f (flow (flowAt (view c) f)) (round (flowAt (view c) f))))
         unfolding answeredAs
         asked-outcome = ap₂ (λ (t : State) (d : Answer). record { state = t; answer = d }) asked-state asked-answer
 
@@ -273,19 +273,21 @@ module _ (c : State) (S : Sound c) where
     no-such-flow rest h = ap (λ (t : Bool). cond t 1 rest) (le-leb flowLimit f h)
 
     pub opened-gives : (weight : ℕ) (a : Asked) → a ≡ openedParts (c .round) (getD (c .flows) at noCell) f weight
-      → OpenGives c f weight (record { state = record { flows = set (c .flows) at (a .flow); round = a .round }; answer = a .answer })
+        → OpenGives c f weight (record { state = record { flows = set (c .flows) at (a .flow); round = a .round }; answer = a .answer })
     unfolding openedParts view opened answeredAs
     opened-gives weight a g =
         record {
           outcome = outcome-here;
-          sound = subst (λ (r : Answered). Sound (r .state)) (sym outcome-here) (sound-of (opened (view c) f weight .state) (opened-keeps (view c) f weight (S .rules)))
+          sound = subst (λ (r : Answered). Sound (r .state)) (sym outcome-here) (sound-of (opened (view c) f weight .state) (opened-keeps (view c) f weight (S .rules)));
         }
       where
         x : Flow
         x = viewFlow (getD (c .flows) at noCell)
+
         either : (n : ℕ) (r : Round) → ifZero n r r ≡ r
         either zero r = refl
         either (suc n) r = refl
+
         outcome-here : record { state = record { flows = set (c .flows) at (a .flow); round = a .round }; answer = a .answer } ≡ answeredAs (opened (view c) f weight)
         outcome-here =
             asked-outcome (openRefusal f weight) (λ y h. no-such-flow _ h) (λ y. openFlow weight) (λ y. view c .round)
@@ -304,16 +306,17 @@ module _ (c : State) (S : Sound c) where
         nothing (p ∷ q) e = absurd (omega arith)
 
     pub offered-gives : (size : ℕ) (a : Asked) → a ≡ offeredParts (c .round) (getD (c .flows) at noCell) f size
-      → OfferGives c f size (record { state = record { flows = set (c .flows) at (a .flow); round = a .round }; answer = a .answer })
+        → OfferGives c f size (record { state = record { flows = set (c .flows) at (a .flow); round = a .round }; answer = a .answer })
     unfolding offeredParts view offered answeredAs
     offered-gives size a g =
         record {
           outcome = outcome-here;
-          sound = subst (λ (r : Answered). Sound (r .state)) (sym outcome-here) (sound-of (offered (view c) f size .state) (offered-keeps (view c) f size (S .rules)))
+          sound = subst (λ (r : Answered). Sound (r .state)) (sym outcome-here) (sound-of (offered (view c) f size .state) (offered-keeps (view c) f size (S .rules)));
         }
       where
         x : Flow
         x = viewFlow (getD (c .flows) at noCell)
+
         outcome-here : record { state = record { flows = set (c .flows) at (a .flow); round = a .round }; answer = a .answer } ≡ answeredAs (offered (view c) f size)
         outcome-here =
             asked-outcome (offerRefusal f size) (λ y h. no-such-flow _ h) (λ y. packetJoined y size) (λ y. flowLined (view c .round) f y)

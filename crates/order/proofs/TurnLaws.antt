@@ -26,7 +26,7 @@ use Rattle.order.proofs.FlowLaws.{first-size-small}
 
 -- A flow without surplus keeps its rules when its first packet leaves.
 left-rules-parts : (w k : ℕ) (q : List ℕ) → FlowRules (record { weight = w; surplus = 0; slot = k; queue = q }) → 0 < length q
-  → FlowRules (firstLeft (record { weight = w; surplus = 0; slot = k; queue = q }))
+    → FlowRules (firstLeft (record { weight = w; surplus = 0; slot = k; queue = q }))
 unfolding firstLeft
 left-rules-parts w k [] R h = absurd (omega arith)
 left-rules-parts w k (p ∷ q) R h = left-flow-rules w 0 k p q 0 R (omega arith) (λ e. refl)
@@ -34,7 +34,7 @@ left-rules-parts w k (p ∷ q) R h = left-flow-rules w 0 k p q 0 R (omega arith)
 left-rules : (x : Flow) → FlowRules x → x .surplus ≡ 0 → 0 < length (x .queue) → FlowRules (firstLeft x)
 left-rules x R z h =
     let e : x ≡ record { weight = x .weight; surplus = 0; slot = x .slot; queue = x .queue } =
-      ap (λ (σ : ℕ). record { weight = x .weight; surplus = σ; slot = x .slot; queue = x .queue }) z in
+    ap (λ (σ : ℕ). record { weight = x .weight; surplus = σ; slot = x .slot; queue = x .queue }) z in
     subst (λ (y : Flow). FlowRules (firstLeft y)) (sym e) (left-rules-parts (x .weight) (x .slot) (x .queue) (subst FlowRules e R) h)
 
 -- With packets left, a turn ends only by the allowance.
@@ -44,7 +44,7 @@ ends-by-allowance (p ∷ q) allowed sent h e = leb-true allowed sent e
 
 -- Two visits with equal parts are equal.
 pub same-visit : {r r′ : RoundCell} {x x′ : FlowCell} {d d′ : Reply} → r ≡ r′ → x ≡ x′ → d ≡ d′
-  → _≡_ {A = Visited} (record { round = r; flow = x; reply = d }) (record { round = r′; flow = x′; reply = d′ })
+    → _≡_ {A = Visited} (record { round = r; flow = x; reply = d }) (record { round = r′; flow = x′; reply = d′ })
 same-visit a b c = λ i. record { round = a i; flow = b i; reply = c i }
 
 -- A departure as the code makes it, and as the model tells it.
@@ -73,10 +73,10 @@ module _ (r : RoundCell) (x : FlowCell) (allowed sent : ℕ) (h : MayServe r x a
     left-weighs = rw e (h .weighs)
 
     pub excess-fits : (size : ℕ) → size ≡ firstSize (viewFlow x) → turnEnds allowed (sent + size) (viewFlow left .queue) ≡ true
-      → 0 < left .waiting → (allowed ≤ sent + size) × (sent + size - allowed < sizeLimit)
+        → 0 < left .waiting → (allowed ≤ sent + size) × (sent + size - allowed < sizeLimit)
     excess-fits size s ends some =
         let enough : allowed ≤ sent + size =
-          ends-by-allowance (viewFlow left .queue) allowed (sent + size) (omega (arith, waiting-is left (left-ready .form))) ends in
+        ends-by-allowance (viewFlow left .queue) allowed (sent + size) (omega (arith, waiting-is left (left-ready .form))) ends in
         (enough, omega (arith, first-size-small x (h .has-first), h .more-may-be-sent))
 
     module _ (f size : ℕ) (s : size ≡ firstSize (viewFlow x)) where
@@ -85,19 +85,19 @@ module _ (r : RoundCell) (x : FlowCell) (allowed sent : ℕ) (h : MayServe r x a
       ends-seen = rw (left-seen, s)
 
       pub closed-law : (round : RoundCell) (flow : FlowCell) → turnEnds allowed (sent + size) (viewFlow left .queue) ≡ true
-        → round ≡ encodeRound (turnClosed (viewRound r) (viewFlow left) f allowed (sent + size))
-        → flow ≡ encodeFlow (excessKept (viewFlow left) allowed (sent + size))
-        → record { round = round; flow = flow; reply = departure f size (r .mark) allowed }
-        ≡ encodeVisit (served (viewRound r) (viewFlow x) f allowed sent)
+          → round ≡ encodeRound (turnClosed (viewRound r) (viewFlow left) f allowed (sent + size))
+          → flow ≡ encodeFlow (excessKept (viewFlow left) allowed (sent + size))
+          → record { round = round; flow = flow; reply = departure f size (r .mark) allowed }
+          ≡ encodeVisit (served (viewRound r) (viewFlow x) f allowed sent)
       unfolding served settled encodeVisit viewRound
       closed-law round flow ends a b =
           rw (sym ends-seen ∙ ends)
           (same-visit (a ∙ rw (left-seen, s)) (b ∙ rw (left-seen, s)) (ap (λ (n : ℕ). departure f n (r .mark) allowed) s))
 
       pub open-law : (round : RoundCell) → turnEnds allowed (sent + size) (viewFlow left .queue) ≡ false
-        → round ≡ encodeRound (turnKept (viewRound r) f allowed (sent + size))
-        → record { round = round; flow = left; reply = departure f size (r .mark) allowed }
-        ≡ encodeVisit (served (viewRound r) (viewFlow x) f allowed sent)
+          → round ≡ encodeRound (turnKept (viewRound r) f allowed (sent + size))
+          → record { round = round; flow = left; reply = departure f size (r .mark) allowed }
+          ≡ encodeVisit (served (viewRound r) (viewFlow x) f allowed sent)
       unfolding served settled encodeVisit viewRound
       open-law round ends a =
           rw (sym ends-seen ∙ ends)

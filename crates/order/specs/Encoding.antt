@@ -24,7 +24,7 @@ encodeFlow x =
       surplus = x .surplus;
       slot = x .slot;
       waiting = length (x .queue);
-      sizes = cells queueLimit (map pred (x .queue))
+      sizes = cells queueLimit (map pred (x .queue));
     }
 
 unfoldable pub viewFlow : FlowCell → Flow
@@ -38,7 +38,7 @@ encodeRound r =
       visits = r .visits;
       mark = r .mark;
       running = r .running;
-      turn = r .turn
+      turn = r .turn;
     }
 
 unfoldable pub viewRound : RoundCell → Round

@@ -3,3 +3,4 @@
 pub mod Encoding
 pub mod Premises
 pub mod Promised
+pub mod Ran

@@ -68,7 +68,7 @@ openedParts r x f weight =
     record {
       round = r;
       flow = encodeFlow (ifZero (openRefusal f weight (viewFlow x)) (openFlow weight) (viewFlow x));
-      answer = answerOf (openRefusal f weight (viewFlow x))
+      answer = answerOf (openRefusal f weight (viewFlow x));
     }
 
 unfoldable pub offeredParts : RoundCell → FlowCell → ℕ → ℕ → Asked
@@ -76,5 +76,5 @@ offeredParts r x f size =
     record {
       round = encodeRound (ifZero (offerRefusal f size (viewFlow x)) (flowLined (viewRound r) f (viewFlow x)) (viewRound r));
       flow = encodeFlow (ifZero (offerRefusal f size (viewFlow x)) (packetJoined (viewFlow x) size) (viewFlow x));
-      answer = answerOf (offerRefusal f size (viewFlow x))
+      answer = answerOf (offerRefusal f size (viewFlow x));
     }

@@ -7,7 +7,6 @@ ghost use Rattle.err.specs.Limits.{flowLimit};
 ghost use Rattle.err.specs.Calls.{openRefusal, offerRefusal, answerOf};
 ghost use Rattle.order.specs.Encoding.{viewFlow};
 ghost use Rattle.order.specs.Premises.{FlowReady, RoundReady, openedParts, offeredParts};
-
 use crate::Asked;
 use crate::FlowCell;
 use crate::RoundCell;
@@ -17,8 +16,8 @@ use err::Answer;
 use err::BAD_SIZE;
 use err::BAD_WEIGHT;
 use err::FLOW_LIMIT;
-use err::NOT_OPEN;
 use err::NO_SUCH_FLOW;
+use err::NOT_OPEN;
 use err::OPEN_ALREADY;
 use err::QUEUE_FULL;
 use err::QUEUE_LIMIT;
@@ -29,11 +28,7 @@ use err::WEIGHT_LIMIT;
 pub fn place(f: usize) -> usize
     ensures { λ at. ⌜ at ≡ cond (ltb f flowLimit) f 0 ⌝ }
 {
-    if f < FLOW_LIMIT {
-        f
-    } else {
-        0
-    }
+    if f < FLOW_LIMIT { f } else { 0 }
 }
 
 fn open_refusal(f: usize, weight: usize, x: FlowCell) -> u8
@@ -48,11 +43,7 @@ fn open_refusal(f: usize, weight: usize, x: FlowCell) -> u8
     if WEIGHT_LIMIT < weight {
         return BAD_WEIGHT;
     }
-    if x.weight == 0 {
-        0
-    } else {
-        OPEN_ALREADY
-    }
+    if x.weight == 0 { 0 } else { OPEN_ALREADY }
 }
 
 fn offer_refusal(f: usize, size: usize, x: FlowCell) -> u8
@@ -85,10 +76,24 @@ pub fn opened(r: RoundCell, x: FlowCell, f: usize, weight: usize) -> Asked
 {
     let refusal = open_refusal(f, weight, x);
     if refusal == 0 {
-        let fresh = FlowCell { weight: weight as u8, surplus: 0, slot: 0, waiting: 0, sizes: [0u8; 8] };
-        Asked { round: r, flow: fresh, answer: Answer::Done }
+        let fresh = FlowCell {
+            weight: weight as u8,
+            surplus: 0,
+            slot: 0,
+            waiting: 0,
+            sizes: [0u8; 8],
+        };
+        Asked {
+            round: r,
+            flow: fresh,
+            answer: Answer::Done,
+        }
     } else {
-        Asked { round: r, flow: x, answer: Answer::Refused(refusal) }
+        Asked {
+            round: r,
+            flow: x,
+            answer: Answer::Refused(refusal),
+        }
     }
 }
 
@@ -102,8 +107,16 @@ pub fn offered(r: RoundCell, x: FlowCell, f: usize, size: usize) -> Asked
     if refusal == 0 {
         let line = round::lined(r, f as u8, x);
         let queue = flow::joined(x, size);
-        Asked { round: line, flow: queue, answer: Answer::Done }
+        Asked {
+            round: line,
+            flow: queue,
+            answer: Answer::Done,
+        }
     } else {
-        Asked { round: r, flow: x, answer: Answer::Refused(refusal) }
+        Asked {
+            round: r,
+            flow: x,
+            answer: Answer::Refused(refusal),
+        }
     }
 }

@@ -6,7 +6,6 @@ ghost use Rattle.err.specs.Limits.{sizeLimit, queueLimit};
 ghost use Rattle.err.specs.Steps.{packetJoined, surplusCleared, firstSize, firstLeft, excessKept};
 ghost use Rattle.order.specs.Encoding.{viewFlow, encodeFlow};
 ghost use Rattle.order.specs.Premises.{FlowReady, HasFirst, HasRoom};
-
 use crate::FlowCell;
 use crate::cells::shift;
 use err::QUEUE_LIMIT;
@@ -20,9 +19,21 @@ pub fn joined(x: FlowCell, size: usize) -> FlowCell
     let mut sizes = x.sizes;
     sizes[at] = (size - 1) as u8;
     if at == 0 {
-        FlowCell { weight: x.weight, surplus: 0, slot: x.slot, waiting: 1, sizes: sizes }
+        FlowCell {
+            weight: x.weight,
+            surplus: 0,
+            slot: x.slot,
+            waiting: 1,
+            sizes: sizes,
+        }
     } else {
-        FlowCell { weight: x.weight, surplus: x.surplus, slot: x.slot, waiting: x.waiting + 1, sizes: sizes }
+        FlowCell {
+            weight: x.weight,
+            surplus: x.surplus,
+            slot: x.slot,
+            waiting: x.waiting + 1,
+            sizes: sizes,
+        }
     }
 }
 
@@ -32,7 +43,13 @@ pub fn cleared(x: FlowCell) -> FlowCell
     ensures { λ r. ⌜ r ≡ encodeFlow (surplusCleared (viewFlow x)) ⌝ }
 {
     let sizes = x.sizes;
-    FlowCell { weight: x.weight, surplus: 0, slot: x.slot, waiting: x.waiting, sizes: sizes }
+    FlowCell {
+        weight: x.weight,
+        surplus: 0,
+        slot: x.slot,
+        waiting: x.waiting,
+        sizes: sizes,
+    }
 }
 
 // Step 3: the size of the first packet.
@@ -51,7 +68,13 @@ pub fn first_left(x: FlowCell) -> FlowCell
 {
     let mut sizes = x.sizes;
     shift(&mut sizes);
-    FlowCell { weight: x.weight, surplus: x.surplus, slot: (x.slot + 1) % QUEUE_LIMIT, waiting: x.waiting - 1, sizes: sizes }
+    FlowCell {
+        weight: x.weight,
+        surplus: x.surplus,
+        slot: (x.slot + 1) % QUEUE_LIMIT,
+        waiting: x.waiting - 1,
+        sizes: sizes,
+    }
 }
 
 // Step 6: with packets waiting the surplus is the excess, with none it is 0.
@@ -62,8 +85,20 @@ pub fn excess_kept(x: FlowCell, allowed: u16, sent: u16) -> FlowCell
 {
     let sizes = x.sizes;
     if x.waiting == 0 {
-        FlowCell { weight: x.weight, surplus: 0, slot: x.slot, waiting: x.waiting, sizes: sizes }
+        FlowCell {
+            weight: x.weight,
+            surplus: 0,
+            slot: x.slot,
+            waiting: x.waiting,
+            sizes: sizes,
+        }
     } else {
-        FlowCell { weight: x.weight, surplus: (sent - allowed) as u8, slot: x.slot, waiting: x.waiting, sizes: sizes }
+        FlowCell {
+            weight: x.weight,
+            surplus: (sent - allowed) as u8,
+            slot: x.slot,
+            waiting: x.waiting,
+            sizes: sizes,
+        }
     }
 }

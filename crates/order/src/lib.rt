@@ -1,7 +1,6 @@
 // The calls on packet sizes: document 01's order layer. Each takes the scheduler's state and hands it back beside its reply.
 ghost use Rattle.order.specs.Encoding.{Sound};
 ghost use Rattle.order.specs.Promised.{GivesNew, OpenGives, OfferGives, DepartGives, BurstGives};
-
 use err::Answer;
 use err::Count;
 use err::LIST_SHORT;
@@ -73,9 +72,25 @@ impl State {
     pub fn new() -> State
         ensures { λ r. ⌜ GivesNew r ⌝ }
     {
-        let closed = FlowCell { weight: 0, surplus: 0, slot: 0, waiting: 0, sizes: [0u8; 8] };
-        let round = RoundCell { line: [0u8; 32], length: 0, visits: 0, mark: 0, running: 0, turn: Serving::NoTurn };
-        State { flows: [closed; 32], round: round }
+        let closed = FlowCell {
+            weight: 0,
+            surplus: 0,
+            slot: 0,
+            waiting: 0,
+            sizes: [0u8; 8],
+        };
+        let round = RoundCell {
+            line: [0u8; 32],
+            length: 0,
+            visits: 0,
+            mark: 0,
+            running: 0,
+            turn: Serving::NoTurn,
+        };
+        State {
+            flows: [closed; 32],
+            round: round,
+        }
     }
 
     pub fn reset(self) -> State
@@ -96,7 +111,13 @@ impl State {
         flows[at] = flow;
         let after = asked.round;
         let answer = asked.answer;
-        Answered { state: State { flows: flows, round: after }, answer: answer }
+        Answered {
+            state: State {
+                flows: flows,
+                round: after,
+            },
+            answer: answer,
+        }
     }
 
     pub fn offer(self, f: usize, size: usize) -> Answered
@@ -111,7 +132,13 @@ impl State {
         flows[at] = flow;
         let after = asked.round;
         let answer = asked.answer;
-        Answered { state: State { flows: flows, round: after }, answer: answer }
+        Answered {
+            state: State {
+                flows: flows,
+                round: after,
+            },
+            answer: answer,
+        }
     }
 
     pub fn depart(self) -> Departed
@@ -126,7 +153,13 @@ impl State {
         flows[at] = flow;
         let after = visited.round;
         let reply = visited.reply;
-        Departed { state: State { flows: flows, round: after }, reply: reply }
+        Departed {
+            state: State {
+                flows: flows,
+                round: after,
+            },
+            reply: reply,
+        }
     }
 
     // Up to n departures, whose flow numbers go into the list from its start.
@@ -135,7 +168,10 @@ impl State {
         ensures { λ r. ⌜ BurstGives self n (now (list .entry)) (now (list .exit)) r ⌝ }
     {
         if list.len() < n {
-            return Counted { state: self, count: Count::Refused(LIST_SHORT) };
+            return Counted {
+                state: self,
+                count: Count::Refused(LIST_SHORT),
+            };
         }
         let mut flows = self.flows;
         let mut round = self.round;
@@ -149,11 +185,23 @@ impl State {
             round = after;
             let reply = visited.reply;
             let Reply::Departure(sent) = reply else {
-                return Counted { state: State { flows: flows, round: round }, count: Count::Made(made) };
+                return Counted {
+                    state: State {
+                        flows: flows,
+                        round: round,
+                    },
+                    count: Count::Made(made),
+                };
             };
             list[made] = sent.flow;
             made += 1;
         }
-        Counted { state: State { flows: flows, round: round }, count: Count::Made(made) }
+        Counted {
+            state: State {
+                flows: flows,
+                round: round,
+            },
+            count: Count::Made(made),
+        }
     }
 }

@@ -5,7 +5,6 @@ ghost use Rattle.err.specs.Limits.{weightLimit, markLimit, flowLimit};
 ghost use Rattle.err.specs.Steps.{flowLined, roundStarted, allowance as allowanceOf, turnOpened, turnEnds, turnKept, raised as raisedTo, turnClosed};
 ghost use Rattle.order.specs.Encoding.{viewFlow, viewRound, encodeRound};
 ghost use Rattle.order.specs.Premises.{FlowReady, RoundReady};
-
 use crate::FlowCell;
 use crate::RoundCell;
 use crate::cells::shift;
@@ -23,7 +22,14 @@ pub fn lined(r: RoundCell, f: u8, x: FlowCell) -> RoundCell
     if x.waiting == 0 {
         let at = r.length as usize;
         line[at] = f;
-        RoundCell { line: line, length: r.length + 1, visits: r.visits, mark: r.mark, running: r.running, turn: turn }
+        RoundCell {
+            line: line,
+            length: r.length + 1,
+            visits: r.visits,
+            mark: r.mark,
+            running: r.running,
+            turn: turn,
+        }
     } else {
         r
     }
@@ -37,7 +43,14 @@ pub fn started(r: RoundCell) -> RoundCell
     let line = r.line;
     let turn = r.turn;
     if r.visits == 0 {
-        RoundCell { line: line, length: r.length, visits: r.length, mark: r.running, running: 0, turn: turn }
+        RoundCell {
+            line: line,
+            length: r.length,
+            visits: r.length,
+            mark: r.running,
+            running: 0,
+            turn: turn,
+        }
     } else {
         r
     }
@@ -59,7 +72,14 @@ pub fn turn_opened(r: RoundCell, f: u8, allowed: u16) -> RoundCell
 {
     let mut line = r.line;
     shift(&mut line);
-    RoundCell { line: line, length: r.length - 1, visits: r.visits, mark: r.mark, running: r.running, turn: Serving::Turn(f, allowed, 0) }
+    RoundCell {
+        line: line,
+        length: r.length - 1,
+        visits: r.visits,
+        mark: r.mark,
+        running: r.running,
+        turn: Serving::Turn(f, allowed, 0),
+    }
 }
 
 // Step 4: whether the turn ends.
@@ -80,7 +100,14 @@ pub fn turn_kept(r: RoundCell, f: u8, allowed: u16, sent: u16) -> RoundCell
     ensures { λ c. ⌜ c ≡ encodeRound (turnKept (viewRound r) f allowed sent) ⌝ }
 {
     let line = r.line;
-    RoundCell { line: line, length: r.length, visits: r.visits, mark: r.mark, running: r.running, turn: Serving::Turn(f, allowed, sent) }
+    RoundCell {
+        line: line,
+        length: r.length,
+        visits: r.visits,
+        mark: r.mark,
+        running: r.running,
+        turn: Serving::Turn(f, allowed, sent),
+    }
 }
 
 // Step 5: the running mark, raised to the excess by weight, rounded up.
@@ -91,11 +118,7 @@ pub fn raised(running: u16, weight: u8, allowed: u16, sent: u16) -> u16
     if allowed <= sent {
         let w = weight as u16;
         let up = (sent - allowed + (w - 1)) / w;
-        if running < up {
-            up
-        } else {
-            running
-        }
+        if running < up { up } else { running }
     } else {
         running
     }
@@ -111,10 +134,24 @@ pub fn turn_closed(r: RoundCell, x: FlowCell, f: u8, allowed: u16, sent: u16) ->
     let running = raised(r.running, x.weight, allowed, sent);
     let mut line = r.line;
     if x.waiting == 0 {
-        RoundCell { line: line, length: r.length, visits: r.visits - 1, mark: r.mark, running: running, turn: Serving::NoTurn }
+        RoundCell {
+            line: line,
+            length: r.length,
+            visits: r.visits - 1,
+            mark: r.mark,
+            running: running,
+            turn: Serving::NoTurn,
+        }
     } else {
         let at = r.length as usize;
         line[at] = f;
-        RoundCell { line: line, length: r.length + 1, visits: r.visits - 1, mark: r.mark, running: running, turn: Serving::NoTurn }
+        RoundCell {
+            line: line,
+            length: r.length + 1,
+            visits: r.visits - 1,
+            mark: r.mark,
+            running: running,
+            turn: Serving::NoTurn,
+        }
     }
 }

@@ -4,7 +4,6 @@ ghost use Rattle.err.specs.Steps.{served as servedOf, visit as visitOf, visitBy
 ghost use Rattle.err.specs.declared.Serving.the-variants.{NoTurn};
 ghost use Rattle.order.specs.Encoding.{viewFlow, viewRound, encodeVisit};
 ghost use Rattle.order.specs.Premises.{RoundReady, MayServe, MayBegin, MayVisit};
-
 use crate::FlowCell;
 use crate::RoundCell;
 use crate::Visited;
@@ -22,14 +21,27 @@ fn served(r: RoundCell, x: FlowCell, f: u8, allowed: u16, sent: u16) -> Visited
     let size = flow::first_size(x);
     let total = sent + size;
     let left = flow::first_left(x);
-    let reply = Reply::Departure(Sent { flow: f, size: size, mark: r.mark, allowance: allowed });
+    let reply = Reply::Departure(Sent {
+        flow: f,
+        size: size,
+        mark: r.mark,
+        allowance: allowed,
+    });
     if round::turn_ends(left, allowed, total) {
         let closed = round::turn_closed(r, left, f, allowed, total);
         let kept = flow::excess_kept(left, allowed, total);
-        Visited { round: closed, flow: kept, reply: reply }
+        Visited {
+            round: closed,
+            flow: kept,
+            reply: reply,
+        }
     } else {
         let open = round::turn_kept(r, f, allowed, total);
-        Visited { round: open, flow: left, reply: reply }
+        Visited {
+            round: open,
+            flow: left,
+            reply: reply,
+        }
     }
 }
 
@@ -42,7 +54,13 @@ fn begun(r: RoundCell, x: FlowCell) -> Visited
     let f = line[0];
     let now = round::started(r);
     let allowed = round::allowance(x.weight, now.mark, x.surplus);
-    served(round::turn_opened(now, f, allowed), flow::cleared(x), f, allowed, 0)
+    served(
+        round::turn_opened(now, f, allowed),
+        flow::cleared(x),
+        f,
+        allowed,
+        0,
+    )
 }
 
 pub fn visit(r: RoundCell, x: FlowCell) -> Visited
@@ -54,7 +72,11 @@ pub fn visit(r: RoundCell, x: FlowCell) -> Visited
         Serving::Turn(f, allowed, sent) => served(r, x, f, allowed, sent),
         Serving::NoTurn => {
             if r.length == 0 {
-                Visited { round: r, flow: x, reply: Reply::Idle }
+                Visited {
+                    round: r,
+                    flow: x,
+                    reply: Reply::Idle,
+                }
             } else {
                 begun(r, x)
             }

@@ -50,11 +50,12 @@ loop-again : tie.Need-loop-again Inv-loop μ-loop
 loop-again c =
     let cells₀ = c .before .before .before .args .cells .now in
     let i = c .before .before .loop .i in
-    let inv = c .before .before .loop .inv in
-    (omega arith,
-    inv .1,
-    simp length-set (inv .2),
-    ap (λ (l : List ℕ). set l i (getD l (i + 1) 0)) (inv .3) ∙ one-more-moves cells₀ i (omega arith) (omega arith))
+    let inv = c .before .before .loop .inv in (
+      omega arith,
+      inv .1,
+      simp length-set (inv .2),
+      ap (λ (l : List ℕ). set l i (getD l (i + 1) 0)) (inv .3) ∙ one-more-moves cells₀ i (omega arith) (omega arith),
+    )
 
 -- src/cells.rt:18:5
 slice-write-cells-2 : tie.Need-slice-write-cells-2 Inv-loop μ-loop

@@ -1,0 +1,224 @@
+-- Demand 2 on sizes, over any list of calls from a new scheduler.
+use Prim.Native.Nat.{ℕ, zero, suc, _+_, _≤_, _<_}
+use mathlib.Core.Path.{_≡_, refl, sym, ap, ap₂, _∙_, subst}
+use mathlib.Core.List.{List, [], _∷_, _++_, map, append-nil, append-assoc, map-append}
+use mathlib.Core.Logic.{_↔_}
+use native.Mathlib.Omega.{arith}
+use lib.ListN.{length, replicate}
+use Rattle.err.specs.Choose.{ifEmpty, ifZero}
+use Rattle.err.specs.Model.{Flow, Scheduler, flowAt, newScheduler}
+use Rattle.err.specs.Steps.{Visit, whose}
+use Rattle.err.specs.Calls.{Outcome, Departures, Burst, opened, offered, departed, departures, andThen, burst, burstMade, unlessRefused, openRefusal, offerRefusal, burstRefusal, answerOf, nextVisit}
+use Rattle.err.specs.Rules.{count, activity, Rules, RoundRules}
+use Rattle.err.specs.Replies.{sentBy}
+use Rattle.err.specs.Chain.{Call, resetting, opening, offering, departing, bursting, after, accepting, leaving, sinceReset, History, start, next, chain, Packet, sizesOf, packetsOf}
+use Rattle.err.specs.declared.Answer.{Answer}
+use Rattle.err.specs.declared.Answer.the-variants.{Done, Refused as AnswerRefused}
+use Rattle.err.specs.declared.Count.{Count}
+use Rattle.err.specs.declared.Count.the-variants.{Made, Refused as CountRefused}
+use Rattle.err.specs.declared.Reply.{Reply}
+use Rattle.err.specs.declared.Reply.the-variants.{Departure, Idle, Refused}
+use Rattle.err.specs.declared.Sent.{Sent}
+use Rattle.err.proofs.Keeps.{new-closed, new-keeps, every-call-keeps, departed-keeps}
+use Rattle.err.proofs.Queues.{Departing, takes, idles, departing-is, idle-state, sizes-append, departed-queue, departures-queue, opened-queue, offered-queue, its-own}
+use Rattle.err.proofs.Standing.{nobody-waits}
+
+-- Every state that calls give keeps document 01's rules.
+pub chain-keeps : (h : History) (calls : List Call) → Rules (h .state) → Rules (chain h calls .state)
+unfolding chain next
+chain-keeps h [] R = R
+chain-keeps h (c ∷ calls) R = chain-keeps (next h c) calls (every-call-keeps (h .state) c R)
+
+pub every-state-keeps-the-rules : (calls : List Call) → Rules (chain start calls .state)
+unfolding start
+every-state-keeps-the-rules calls = chain-keeps start calls new-keeps
+
+-- What was accepted of flow f is what has left of it followed by what waits.
+abbrev Balanced : History → ℕ → Type 0
+Balanced h f = sizesOf f (h .accepted) ≡ sizesOf f (packetsOf (h .left)) ++ flowAt (h .state) f .queue
+
+-- A call that accepts a, sends l and leaves q waiting, where w waited.
+balance-moves : (f : ℕ) (accepted a : List Packet) (left l : List Sent) (w q : List ℕ) → sizesOf f accepted ≡ sizesOf f (packetsOf left) ++ w
+    → w ++ sizesOf f a ≡ sizesOf f (packetsOf l) ++ q → sizesOf f (accepted ++ a) ≡ sizesOf f (packetsOf (left ++ l)) ++ q
+balance-moves f accepted a left l w q B e =
+    sizes-append f accepted a
+    ∙ ap (λ (k : List ℕ). k ++ sizesOf f a) B
+    ∙ append-assoc (sizesOf f (packetsOf left)) w (sizesOf f a)
+    ∙ ap (λ (k : List ℕ). sizesOf f (packetsOf left) ++ k) e
+    ∙ sym (append-assoc (sizesOf f (packetsOf left)) (sizesOf f (packetsOf l)) q)
+    ∙ ap (λ (k : List ℕ). k ++ q) (sym (ap (sizesOf f) (map-append (λ (d : Sent). record { flow = d .flow; size = d .size }) left l) ∙ sizes-append f (packetsOf left) (packetsOf l)))
+
+next-balanced : (h : History) (c : Call) → Rules (h .state) → (f : ℕ) → Balanced h f → Balanced (next h c) f
+unfolding next after accepting leaving sizesOf burst burstMade
+next-balanced h resetting R f B = sym (ap (λ (y : Flow). y .queue) (new-closed f))
+next-balanced h (opening g weight) R f B =
+    balance-moves f (h .accepted) [] (h .left) [] (flowAt (h .state) f .queue) _ B
+    (append-nil (flowAt (h .state) f .queue) ∙ sym (opened-queue (h .state) g weight R f))
+next-balanced h (offering g size) R f B =
+    balance-moves f (h .accepted) (accepting (h .state) (offering g size)) (h .left) [] (flowAt (h .state) f .queue) _ B
+    (sym (offered-queue (h .state) g size R f))
+next-balanced h departing R f B =
+    balance-moves f (h .accepted) [] (h .left) (sentBy (departed (h .state) .reply)) (flowAt (h .state) f .queue) _ B
+    (append-nil (flowAt (h .state) f .queue) ∙ departed-queue (h .state) R f)
+next-balanced h (bursting n list) R f B = by (burstRefusal n list) (CountRefused (burstRefusal n list))
+  where
+    s : Scheduler
+    s = h .state
+
+    by : (k : ℕ) (c : Count)
+        → sizesOf f (h .accepted ++ [])
+        ≡ sizesOf f (packetsOf (h .left ++ ifZero k (departures n s .sent) []))
+        ++ flowAt (ifZero k (burstMade list (departures n s)) (record { state = s; list = list; reply = c }) .state) f .queue
+    by zero c =
+        balance-moves f (h .accepted) [] (h .left) (departures n s .sent) (flowAt s f .queue) _ B (append-nil (flowAt s f .queue) ∙ departures-queue n s R f)
+    by (suc k) c = balance-moves f (h .accepted) [] (h .left) [] (flowAt s f .queue) _ B (append-nil (flowAt s f .queue))
+
+chain-balanced : (h : History) (calls : List Call) → Rules (h .state) → (f : ℕ) → Balanced h f → Balanced (chain h calls) f
+unfolding chain next
+chain-balanced h [] R f B = B
+chain-balanced h (c ∷ calls) R f B = chain-balanced (next h c) calls (every-call-keeps (h .state) c R) f (next-balanced h c R f B)
+
+-- Since the last reset, what was accepted for a flow is what has departed of it followed by what waits, in order.
+pub nothing-lost : (calls : List Call) (f : ℕ)
+    → sizesOf f (chain start calls .accepted) ≡ sizesOf f (packetsOf (chain start calls .left)) ++ flowAt (chain start calls .state) f .queue
+unfolding start sizesOf
+nothing-lost calls f = chain-balanced start calls new-keeps f (sym (ap (λ (y : Flow). y .queue) (new-closed f)))
+
+-- A departure is of the flow of the open turn or, with none open, of the head of the line; it is that flow's first packet.
+pub departs-the-first : (s : Scheduler) (d : Sent) → Rules s → departed s .reply ≡ Departure d
+    → (d .flow ≡ whose (s .round)) × (flowAt s (d .flow) .queue ≡ d .size ∷ flowAt (departed s .state) (d .flow) .queue)
+unfolding departed
+departs-the-first s d R e = (who (departing-is s R), first)
+  where
+    first : flowAt s (d .flow) .queue ≡ d .size ∷ flowAt (departed s .state) (d .flow) .queue
+    first =
+        departed-queue s R (d .flow)
+        ∙ ap (λ (r : Reply). sizesOf (d .flow) (packetsOf (sentBy r)) ++ flowAt (departed s .state) (d .flow) .queue) e
+        ∙ ap (λ (l : List ℕ). l ++ flowAt (departed s .state) (d .flow) .queue) (its-own (d .flow) (d .size))
+
+    who : Departing s → d .flow ≡ whose (s .round)
+    who (takes q T) =
+        let told : nextVisit s .reply ≡ Departure (T .told) = T .reply-is in
+        let same : d ≡ T .told = cc in
+        ap (λ (k : Sent). k .flow) same ∙ T .flow-is
+    who (idles v t l) =
+        let idle : nextVisit s .reply ≡ Idle = ap (λ (k : Visit). k .reply) v in
+        let z : _≡_ {A = ℕ} 0 1 = cc in
+        absurd (omega arith)
+
+-- Idle exactly when nothing waits.
+pub idle-when-nothing-waits : (s : Scheduler) → Rules s → (departed s .reply ≡ Idle) ↔ ((f : ℕ) → flowAt s f .queue ≡ [])
+unfolding departed
+idle-when-nothing-waits s R = (only, if)
+  where
+    only : departed s .reply ≡ Idle → (f : ℕ) → flowAt s f .queue ≡ []
+    only e = by (departing-is s R)
+      where
+        by : Departing s → (f : ℕ) → flowAt s f .queue ≡ []
+        by (takes q T) = let r : nextVisit s .reply ≡ Departure (T .told) = T .reply-is in let z : _≡_ {A = ℕ} 0 1 = cc in absurd (omega arith)
+        by (idles v t l) = nobody-waits s R t l
+
+    if : ((f : ℕ) → flowAt s f .queue ≡ []) → departed s .reply ≡ Idle
+    if h = by (departing-is s R)
+      where
+        by : Departing s → nextVisit s .reply ≡ Idle
+        by (takes {p} {q} e T) = let w : flowAt s (whose (s .round)) .queue ≡ [] = h (whose (s .round)) in let z : _≡_ {A = ℕ} 0 1 = cc in absurd (omega arith)
+        by (idles v t l) = ap (λ (k : Visit). k .reply) v
+
+-- Idle gives back the state as it was.
+pub idle-changes-nothing : (s : Scheduler) → Rules s → departed s .reply ≡ Idle → departed s .state ≡ s
+unfolding departed
+idle-changes-nothing s R e = by (departing-is s R)
+  where
+    by : Departing s → departed s .state ≡ s
+    by (takes q T) = let r : nextVisit s .reply ≡ Departure (T .told) = T .reply-is in let z : _≡_ {A = ℕ} 0 1 = cc in absurd (omega arith)
+    by (idles v t l) = idle-state s v
+
+-- On the order layer a departure call is never refused.
+pub departure-or-idle : (s : Scheduler) → Rules s → (k : ℕ) → departed s .reply ≡ Refused k → ⊥
+unfolding departed
+departure-or-idle s R k e = by (departing-is s R)
+  where
+    by : Departing s → ⊥
+    by (takes q T) = let r : nextVisit s .reply ≡ Departure (T .told) = T .reply-is in let z : _≡_ {A = ℕ} 0 1 = cc in omega arith
+    by (idles v t l) = let r : nextVisit s .reply ≡ Idle = ap (λ (y : Visit). y .reply) v in let z : _≡_ {A = ℕ} 0 1 = cc in omega arith
+
+-- A refusal gives back the state as it was, and burst's the list too.
+unless-refused : (n : ℕ) (s t : Scheduler) (k : ℕ) → unlessRefused n s t .reply ≡ AnswerRefused k → unlessRefused n s t .state ≡ s
+unfolding unlessRefused
+unless-refused zero s t k e = let z : _≡_ {A = ℕ} 0 1 = cc in absurd (omega arith)
+unless-refused (suc n) s t k e = refl
+
+pub refused-open-changes-nothing : (s : Scheduler) (f weight k : ℕ) → opened s f weight .reply ≡ AnswerRefused k → opened s f weight .state ≡ s
+unfolding opened
+refused-open-changes-nothing s f weight k e = unless-refused (openRefusal f weight (flowAt s f)) s _ k e
+
+pub refused-offer-changes-nothing : (s : Scheduler) (f size k : ℕ) → offered s f size .reply ≡ AnswerRefused k → offered s f size .state ≡ s
+unfolding offered
+refused-offer-changes-nothing s f size k e = unless-refused (offerRefusal f size (flowAt s f)) s _ k e
+
+pub refused-burst-changes-nothing : (s : Scheduler) (n : ℕ) (list : List ℕ) (k : ℕ) → burst s n list .reply ≡ CountRefused k
+    → (burst s n list .state ≡ s) × (burst s n list .list ≡ list)
+unfolding burst burstMade
+refused-burst-changes-nothing s n list k e = by (burstRefusal n list) (CountRefused (burstRefusal n list)) e
+  where
+    by : (m : ℕ) (c : Count) → ifZero m (burstMade list (departures n s)) (record { state = s; list = list; reply = c }) .reply ≡ CountRefused k
+        → (ifZero m (burstMade list (departures n s)) (record { state = s; list = list; reply = c }) .state ≡ s)
+        × (ifZero m (burstMade list (departures n s)) (record { state = s; list = list; reply = c }) .list ≡ list)
+    by zero c i = let z : _≡_ {A = ℕ} 0 1 = cc in absurd (omega arith)
+    by (suc m) c i = (refl, refl)
+
+-- One single departure call in a history.
+one-single : (h : History)
+    → next h departing ≡ record { state = departed (h .state) .state; accepted = h .accepted; left = h .left ++ sentBy (departed (h .state) .reply) }
+unfolding next after accepting leaving
+one-single h =
+    ap (λ (l : List Packet). record { state = departed (h .state) .state; accepted = l; left = h .left ++ sentBy (departed (h .state) .reply) })
+    (append-nil (h .accepted))
+
+idle-single : (h : History) → departed (h .state) .reply ≡ Idle → Rules (h .state) → next h departing ≡ h
+idle-single h e R =
+    one-single h
+    ∙ ap₂ (λ (t : Scheduler) (l : List Sent). record { state = t; accepted = h .accepted; left = l })
+    (idle-changes-nothing (h .state) R e)
+    (ap (λ (r : Reply). h .left ++ sentBy r) e ∙ append-nil (h .left))
+
+idle-from-then : (n : ℕ) (h : History) → departed (h .state) .reply ≡ Idle → Rules (h .state) → chain h (replicate n departing) ≡ h
+unfolding chain
+idle-from-then zero h e R = refl
+idle-from-then (suc n) h e R = ap (λ (k : History). chain k (replicate n departing)) (idle-single h e R) ∙ idle-from-then n h e R
+
+-- N single calls make the departures that a burst of N makes, and leave its state: those after the first idle are idle too.
+pub burst-as-single-calls : (n : ℕ) (h : History) → Rules (h .state)
+    → chain h (replicate n departing)
+    ≡ record { state = departures n (h .state) .state; accepted = h .accepted; left = h .left ++ departures n (h .state) .sent }
+unfolding chain departures andThen
+burst-as-single-calls zero h R = ap (λ (l : List Sent). record { state = h .state; accepted = h .accepted; left = l }) (sym (append-nil (h .left)))
+burst-as-single-calls (suc n) h R =
+    by (departed (h .state) .reply) refl
+    (burst-as-single-calls n (record { state = t; accepted = h .accepted; left = h .left ++ sentBy (departed (h .state) .reply) }) (departed-keeps (h .state) R))
+  where
+    t : Scheduler
+    t = departed (h .state) .state
+
+    by : (reply : Reply) → departed (h .state) .reply ≡ reply
+        → chain (record { state = t; accepted = h .accepted; left = h .left ++ sentBy (departed (h .state) .reply) }) (replicate n departing)
+        ≡ record { state = departures n t .state; accepted = h .accepted; left = h .left ++ sentBy (departed (h .state) .reply) ++ departures n t .sent }
+        → chain (next h departing) (replicate n departing)
+        ≡ record {
+          state = andThen reply t (departures n t) .state;
+          accepted = h .accepted;
+          left = h .left ++ andThen reply t (departures n t) .sent;
+        }
+    by (Departure d) e ih =
+        ap (λ (k : History). chain k (replicate n departing)) (one-single h)
+        ∙ ih
+        ∙ ap (λ (l : List Sent). record { state = departures n t .state; accepted = h .accepted; left = l })
+        (append-assoc (h .left) (sentBy (departed (h .state) .reply)) (departures n t .sent)
+        ∙ ap (λ (r : Reply). h .left ++ (sentBy r ++ departures n t .sent)) e)
+    by Idle e ih =
+        idle-from-then (suc n) h e R
+        ∙ ap₂ (λ (k : Scheduler) (l : List Sent). record { state = k; accepted = h .accepted; left = l })
+        (sym (idle-changes-nothing (h .state) R e))
+        (sym (append-nil (h .left)))
+    by (Refused k) e ih = absurd (departure-or-idle (h .state) R k e)
