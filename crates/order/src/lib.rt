@@ -127,11 +127,11 @@ impl State {
         let mut flows = self.flows;
         let round = self.round;
         let at = ask::place(f);
-        let asked = ask::offered(round, flows[at], f, size);
-        let flow = asked.flow;
+        let told = ask::offered(round, flows[at], f, size);
+        let flow = told.flow;
         flows[at] = flow;
-        let after = asked.round;
-        let answer = asked.answer;
+        let after = told.round;
+        let answer = told.answer;
         Answered {
             state: State {
                 flows: flows,
@@ -148,11 +148,11 @@ impl State {
         let mut flows = self.flows;
         let round = self.round;
         let at = turn::whose(round);
-        let visited = turn::visit(round, flows[at]);
-        let flow = visited.flow;
-        flows[at] = flow;
-        let after = visited.round;
-        let reply = visited.reply;
+        let gone = turn::visit(round, flows[at]);
+        let rest = gone.flow;
+        flows[at] = rest;
+        let after = gone.round;
+        let reply = gone.reply;
         Departed {
             state: State {
                 flows: flows,
@@ -185,23 +185,25 @@ impl State {
             round = after;
             let reply = visited.reply;
             let Reply::Departure(sent) = reply else {
+                let fewer = Count::Made(made);
                 return Counted {
                     state: State {
                         flows: flows,
                         round: round,
                     },
-                    count: Count::Made(made),
+                    count: fewer,
                 };
             };
             list[made] = sent.flow;
             made += 1;
         }
+        let all = Count::Made(made);
         Counted {
             state: State {
                 flows: flows,
                 round: round,
             },
-            count: Count::Made(made),
+            count: all,
         }
     }
 }

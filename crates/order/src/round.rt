@@ -11,21 +11,22 @@ use crate::cells::shift;
 use err::Serving;
 
 // Step 1: a flow that was not active goes to the end of the line.
-pub fn lined(r: RoundCell, f: u8, x: FlowCell) -> RoundCell
+pub fn lined(r: RoundCell, f: u8, was: FlowCell) -> RoundCell
     requires { ⌜ RoundReady r ⌝ }
-    requires { ⌜ FlowReady x ⌝ }
-    requires { ⌜ (x .waiting ≡ 0 → r .length < flowLimit) ⌝ }
-    ensures { λ c. ⌜ c ≡ encodeRound (flowLined (viewRound r) f (viewFlow x)) ⌝ }
+    requires { ⌜ FlowReady was ⌝ }
+    requires { ⌜ (was .waiting ≡ 0 → r .length < flowLimit) ⌝ }
+    ensures { λ c. ⌜ c ≡ encodeRound (flowLined (viewRound r) f (viewFlow was)) ⌝ }
 {
     let mut line = r.line;
     let turn = r.turn;
-    if x.waiting == 0 {
+    let visits = r.visits;
+    if was.waiting == 0 {
         let at = r.length as usize;
         line[at] = f;
         RoundCell {
             line: line,
             length: r.length + 1,
-            visits: r.visits,
+            visits: visits,
             mark: r.mark,
             running: r.running,
             turn: turn,
@@ -125,15 +126,15 @@ pub fn raised(running: u16, weight: u8, allowed: u16, sent: u16) -> u16
 }
 
 // Steps 5 and 6: the turn ends, and with packets waiting the flow goes to the end of the line.
-pub fn turn_closed(r: RoundCell, x: FlowCell, f: u8, allowed: u16, sent: u16) -> RoundCell
+pub fn turn_closed(r: RoundCell, left: FlowCell, f: u8, allowed: u16, sent: u16) -> RoundCell
     requires { ⌜ RoundReady r ⌝ }
-    requires { ⌜ FlowReady x ⌝ }
-    requires { ⌜ (r .length < flowLimit) × (1 ≤ r .visits) × (1 ≤ x .weight) × (sent < 32768) ⌝ }
-    ensures { λ c. ⌜ c ≡ encodeRound (turnClosed (viewRound r) (viewFlow x) f allowed sent) ⌝ }
+    requires { ⌜ FlowReady left ⌝ }
+    requires { ⌜ (r .length < flowLimit) × (1 ≤ r .visits) × (1 ≤ left .weight) × (sent < 32768) ⌝ }
+    ensures { λ c. ⌜ c ≡ encodeRound (turnClosed (viewRound r) (viewFlow left) f allowed sent) ⌝ }
 {
-    let running = raised(r.running, x.weight, allowed, sent);
+    let running = raised(r.running, left.weight, allowed, sent);
     let mut line = r.line;
-    if x.waiting == 0 {
+    if left.waiting == 0 {
         RoundCell {
             line: line,
             length: r.length,

@@ -11,14 +11,14 @@ cast-at c = search needs
 array-write-line : tie.Need-array-write-line
 array-write-line c = omega (arith, c .before .before .before .before .pre .1 .1 (c .before .if1 .taken))
 
-add-t12 : tie.Need-add-t12
-add-t12 c = search needs
+add-t13 : tie.Need-add-t13
+add-t13 c = search needs
 
 returns : tie.Need-returns
-returns c = lined-law (c .before .before .before .before .before .args .r) (c .before .before .before .before .before .pre .0) (c .before .before .before .before .before .args .x) (c .before .before .before .before .before .pre .1 .0) (c .before .before .before .before .before .args .f) (c .before .before .if1 .taken) (c .before .before .before .before .before .pre .1 .1 (c .before .before .if1 .taken))
+returns c = lined-law (c .before .before .before .before .before .args .r) (c .before .before .before .before .before .pre .0) (c .before .before .before .before .before .args .was) (c .before .before .before .before .before .pre .1 .0) (c .before .before .before .before .before .args .f) (c .before .before .if1 .taken) (c .before .before .before .before .before .pre .1 .1 (c .before .before .if1 .taken))
 
 returns-2 : tie.Need-returns-2
-returns-2 c = in-place-law (c .before .before .before .args .r) (c .before .before .before .pre .0) (c .before .before .before .args .x) (c .before .before .before .pre .1 .0) (c .before .before .before .args .f) (c .if1 .left)
+returns-2 c = in-place-law (c .before .before .before .args .r) (c .before .before .before .pre .0) (c .before .before .before .args .was) (c .before .before .before .pre .1 .0) (c .before .before .before .args .f) (c .if1 .left)
 
 pub lined-spec : {M : Type 1} → statement M
-lined-spec = tie.close (tie.spec cast-at array-write-line add-t12 returns returns-2)
+lined-spec = tie.close (tie.spec cast-at array-write-line add-t13 returns returns-2)

@@ -23,10 +23,10 @@ sub-t18 : tie.Need-sub-t18
 sub-t18 c = search needs
 
 returns : tie.Need-returns
-returns c = emptied-law (c .before .before .before .before .before .args .r) (c .before .before .before .before .before .pre .0) (c .before .before .before .before .before .args .x) (c .before .before .before .before .before .pre .1 .0) (c .before .before .before .before .before .args .f) (c .before .before .before .before .before .args .allowed) (c .before .before .before .before .before .args .sent) (c .before .before .before .before .raised .result) (c .before .before .before .before .raised .ensures) (c .before .if1 .taken)
+returns c = emptied-law (c .before .before .before .before .before .args .r) (c .before .before .before .before .before .pre .0) (c .before .before .before .before .before .args .left) (c .before .before .before .before .before .pre .1 .0) (c .before .before .before .before .before .args .f) (c .before .before .before .before .before .args .allowed) (c .before .before .before .before .before .args .sent) (c .before .before .before .before .raised .result) (c .before .before .before .before .raised .ensures) (c .before .if1 .taken)
 
 returns-2 : tie.Need-returns-2
-returns-2 c = rejoined-law (c .before .before .before .before .before .before .before .args .r) (c .before .before .before .before .before .before .before .pre .0) (c .before .before .before .before .before .before .before .args .x) (c .before .before .before .before .before .before .before .pre .1 .0) (c .before .before .before .before .before .before .before .args .f) (c .before .before .before .before .before .before .before .args .allowed) (c .before .before .before .before .before .before .before .args .sent) (c .before .before .before .before .before .before .raised .result) (c .before .before .before .before .before .before .raised .ensures) (c .before .before .before .if1 .left) (c .before .before .before .before .before .before .before .pre .1 .1 .0)
+returns-2 c = rejoined-law (c .before .before .before .before .before .before .before .args .r) (c .before .before .before .before .before .before .before .pre .0) (c .before .before .before .before .before .before .before .args .left) (c .before .before .before .before .before .before .before .pre .1 .0) (c .before .before .before .before .before .before .before .args .f) (c .before .before .before .before .before .before .before .args .allowed) (c .before .before .before .before .before .before .before .args .sent) (c .before .before .before .before .before .before .raised .result) (c .before .before .before .before .before .before .raised .ensures) (c .before .before .before .if1 .left) (c .before .before .before .before .before .before .before .pre .1 .1 .0)
 
 pub turn-closed-spec : {M : Type 1} → statement M
 turn-closed-spec =
