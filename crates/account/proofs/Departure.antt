@@ -1,0 +1,265 @@
+-- A departure call is a run of moves: a round may start, a turn may open, and a packet leaves.
+use Prim.Native.Nat.{ℕ, zero, suc, _+_, _*_, _-_, _≤_, _<_, max}
+use mathlib.Core.Path.{_≡_, refl, sym, ap, _∙_}
+use mathlib.Core.List.{List, [], _∷_, _++_}
+use mathlib.Core.Bool.{Bool, true, false}
+use native.Mathlib.Omega.{arith}
+use native.Mathlib.Decide.{ℕ-discrete}
+use native.Mathlib.Nat.{le-max-left}
+use lib.ListN.{length, getD, set, take, drop}
+use lib.Seq.{take-append-le, drop-append-le, take-length, drop-length}
+use lib.Dec.{leb}
+use borrow.Author.Tests.{leb-true}
+use Rattle.err.specs.Limits.{flowLimit}
+use Rattle.err.specs.Choose.{ifEmpty}
+use Rattle.err.specs.Model.{Flow, Round, Scheduler, flowAt, closedFlow}
+use Rattle.err.specs.Steps.{roundStarted, turnOpened, surplusCleared, firstLeft, turnKept, raised, turnClosed, excessKept, turnEnds, nextSlot, Visit, settled, served, visitBy, visit, whose, allowance, firstSize}
+use Rattle.err.specs.Calls.{put, departed, nextVisit}
+use Rattle.err.specs.Rules.{Sizes, count, FlowRules, LineRules, TurnRules, RoundRules, Rules}
+use Rattle.err.specs.Replies.{sentBy}
+use Rattle.err.specs.declared.Reply.{Reply}
+use Rattle.err.specs.declared.Reply.the-variants.{Departure}
+use Rattle.err.specs.declared.Serving.{Serving}
+use Rattle.err.specs.declared.Serving.the-variants.{NoTurn, Turn}
+use Rattle.err.proofs.Counts.{count-head}
+use Rattle.err.proofs.Rounding.{raised-at-most}
+use Rattle.err.proofs.Line.{OnlyAt}
+use Rattle.err.proofs.Line.{round-starts as rules-when-a-round-starts}
+use Rattle.err.proofs.Flows.{at-put, at-others, put-back, waiting-in-reach, first-in-range}
+use Rattle.account.specs.Stretch.{turnThen, turnsOf}
+use Rattle.account.proofs.Circle.{Circle, circle, circleOf, round-starts, turn-opens, turn-stays-open, turn-ends, flow-runs-empty, Run, stands, moves, follows, Renewed, Waits, Backwards, departure}
+
+abbrev pub flowOf : ℕ → ℕ → ℕ → List ℕ → Flow
+flowOf w σ k q = record { weight = w; surplus = σ; slot = k; queue = q }
+
+abbrev roundOf : List ℕ → ℕ → ℕ → ℕ → Serving → Round
+roundOf line visits mark running turn = record { line = line; visits = visits; mark = mark; running = running; turn = turn }
+
+-- What relates a flow to what is put in its place relates every flow to what it then is.
+pub put-relates : (R : Flow → Flow → Type 0) → ((x : Flow) → R x x) → (flows : List Flow) (g : ℕ) (y : Flow) → R (getD flows g closedFlow) y
+    → (f : ℕ) → R (getD flows f closedFlow) (getD (set flows g y) f closedFlow)
+put-relates R same [] g y r f = same closedFlow
+put-relates R same (x ∷ flows) zero y r zero = r
+put-relates R same (x ∷ flows) zero y r (suc f) = same (getD flows f closedFlow)
+put-relates R same (x ∷ flows) (suc g) y r zero = same x
+put-relates R same (x ∷ flows) (suc g) y r (suc f) = put-relates R same flows g y r f
+
+-- Serving takes the first packet and no other, so a flow that waits after it waited before.
+served-waited : (r : Round) (x : Flow) (f allowed sent : ℕ) → Waits (served r x f allowed sent .flow) → Waits x
+unfolding served settled firstLeft excessKept
+served-waited r x f allowed sent =
+    go (turnEnds allowed (sent + firstSize x) (drop 1 (x .queue))) (Departure (departure f (firstSize x) (r .mark) allowed))
+  where
+    waited : (q : List ℕ) → 1 ≤ length (drop 1 q) → 1 ≤ length q
+    waited [] h = h
+    waited (p ∷ q) h = omega arith
+
+    go : (b : Bool) (d : Reply) → Waits (settled b r (firstLeft x) f allowed (sent + firstSize x) d .flow) → Waits x
+    go true d w = waited (x .queue) w
+    go false d w = waited (x .queue) w
+
+-- A flow that waits after a departure waited before it.
+pub waited-before : (s : Scheduler) (f : ℕ) → Waits (flowAt (departed s .state) f) → Waits (flowAt s f)
+unfolding departed put visit visitBy surplusCleared
+waited-before s =
+    put-relates (λ x y. Waits y → Waits x) (λ x w. w) (s .flows) (whose (s .round)) (nextVisit s .flow)
+    (go (s .round .turn) (s .round .line) (s .round) (flowAt s (whose (s .round))))
+  where
+    go : (turn : Serving) (line : List ℕ) (r : Round) (x : Flow) → Waits (visitBy turn line r x .flow) → Waits x
+    go (Turn f allowed sent) line r x w = served-waited r x f allowed sent w
+    go NoTurn [] r x w = w
+    go NoTurn (f ∷ line) r x w = served-waited _ (surplusCleared x) f _ 0 w
+
+-- A flow with a packet waiting weighs something, and so does one whose turn allows anything.
+pub weighs : (x : Flow) → FlowRules x → (x .queue ≡ [] → ⊥) → 1 ≤ x .weight
+weighs x X waits = elim (ℕ-discrete (x .weight) 0) [ yes e ↦ absurd (waits (X .open-if-waiting e)) | no d ↦ omega arith ]
+
+weighs-in-turn : (w mark allowed sent : ℕ) → sent < allowed → allowed ≤ w * (1 + mark) → 1 ≤ w
+weighs-in-turn zero mark allowed sent low most = absurd (omega arith)
+weighs-in-turn (suc w) mark allowed sent low most = omega arith
+
+-- The running mark rises no higher than the excess.
+raised-within : (running w mark allowed sent total : ℕ) → sent < allowed → allowed ≤ w * (1 + mark)
+    → raised running w allowed total ≤ max running (total - allowed)
+raised-within running w mark allowed sent total low most =
+    raised-at-most running w allowed total (max running (total - allowed)) (weighs-in-turn w mark allowed sent low most) (le-max-left running (total - allowed)) (omega arith)
+
+module _ (s : Scheduler) (R : Rules s) {g : ℕ} (reach : g < flowLimit) (y : Flow) (r : Round) where
+  pub here-now : flowAt (put s g y r) g ≡ y
+  here-now = at-put s g y r (omega (arith, R .all-flows))
+
+  -- Where flow g is put in place, with the weight that it had.
+  pub renewed : (surplus : ℕ) (flow : ℕ → Flow) → OnlyAt g (flowAt s) flow → y .weight ≡ flow g .weight → y .surplus ≡ surplus
+      → Renewed g surplus flow (flowAt (put s g y r))
+  renewed surplus flow only weight now =
+      record {
+        others-same = λ f d. at-others s g y r f d ∙ sym (only f d);
+        weight-same = ap (λ (x : Flow). x .weight) here-now ∙ weight;
+        surplus-now = ap (λ (x : Flow). x .surplus) here-now ∙ now;
+      }
+
+-- A flow that stands has a packet waiting.
+standing-waits : {flow : ℕ → Flow} {out line : List ℕ} {mark running n g k : ℕ} → LineRules flow out line mark running n → count g (out ++ line) ≡ suc k
+    → flow g .queue ≡ [] → ⊥
+standing-waits {g = g} L c e = absurd (omega (arith, L .stands-once g, c, ap (λ (q : List ℕ). ifEmpty {A = ℕ} q 0 1) e))
+
+-- From the circle c, what serving flow g gives is a run of moves, with what leaves and which turn is completed.
+abbrev Serves : ((ℕ → Flow) → Type 0) → Scheduler → ℕ → Circle → Visit → Type 0
+Serves Wanted s g c v =
+    Wanted (flowAt (put s g (v .flow) (v .round)))
+    → Run Wanted c (circleOf (put s g (v .flow) (v .round))) (sentBy (v .reply)) (turnThen (v .reply) (v .round .turn) [])
+
+-- Steps 3 to 6, in an open turn of g, whose flow is as in the state but for its surplus.
+module _ (Wanted : (ℕ → Flow) → Type 0) (s : Scheduler) (R : Rules s) (r : Round) (g allowed sent w σ k : ℕ) (flow : ℕ → Flow)
+    (only : OnlyAt g (flowAt s) flow) (reach : g < flowLimit) (fits : r .visits - 1 ≤ length (r .line))
+    (low : sent < allowed) (most : allowed ≤ w * (1 + r .mark)) where
+  abbrev turning : Circle
+  turning = circle flow (drop (r .visits - 1) (r .line)) (take (r .visits - 1) (r .line)) (Turn g allowed sent) (r .mark) (r .running)
+
+  serving-runs : (q : List ℕ) → flow g ≡ flowOf w σ k q → Sizes q → (q ≡ [] → ⊥) → Serves Wanted s g turning (served r (flowOf w σ k q) g allowed sent)
+  unfolding served settled firstLeft turnKept turnClosed excessKept put turnThen
+  serving-runs [] here sizes waits = absurd (waits refl)
+  serving-runs (p ∷ []) here sizes waits =
+      moves
+      (flow-runs-empty
+      (renewed s R reach (flowOf w 0 (nextSlot k) []) r 0 flow only (sym (ap (λ (x : Flow). x .weight) here)) refl)
+      (first-in-range sizes .0)
+      low
+      (raised-within (r .running) w (r .mark) allowed sent (sent + p) low most)
+      (λ v. absurd (omega (arith, v, ap (λ (x : Flow). length (x .queue)) (here-now s R reach (flowOf w 0 (nextSlot k) []) r)))))
+  serving-runs (p ∷ (p′ ∷ q)) here sizes waits = go (leb allowed (sent + p)) refl
+    where
+      x : Flow
+      x = flowOf w σ k (p ∷ (p′ ∷ q))
+
+      weight : w ≡ flow g .weight
+      weight = sym (ap (λ (y : Flow). y .weight) here)
+
+      most′ : allowed ≤ flow g .weight * (1 + r .mark)
+      most′ = omega (arith, ap (λ (v : ℕ). v * (1 + r .mark)) weight)
+
+      go : (b : Bool) → leb allowed (sent + p) ≡ b
+          → Serves Wanted s g turning (settled b r (firstLeft x) g allowed (sent + p) (Departure (departure g p (r .mark) allowed)))
+      go true e =
+          rw (drop-append-le (r .visits - 1) (r .line) (g ∷ []) fits, take-append-le (r .visits - 1) (r .line) (g ∷ []) fits)
+          (moves
+          (turn-ends
+          (renewed s R reach (flowOf w (sent + p - allowed) (nextSlot k) (p′ ∷ q)) r (sent + p - allowed) flow only weight refl)
+          (first-in-range sizes .0)
+          low
+          (raised-within (r .running) w (r .mark) allowed sent (sent + p) low most)
+          most′
+          (leb-true allowed (sent + p) e)))
+      go false e =
+          moves
+          (turn-stays-open
+          (renewed s R reach (flowOf w σ (nextSlot k) (p′ ∷ q)) r (flow g .surplus) flow only weight (sym (ap (λ (y : Flow). y .surplus) here)))
+          (first-in-range sizes .0))
+
+abbrev allowanceOf : Scheduler → ℕ → ℕ → ℕ
+allowanceOf s g mark = allowance (flowAt s g .weight) mark (flowAt s g .surplus)
+
+-- The round in which g, the head of the line, has opened its turn.
+abbrev openedFor : Scheduler → ℕ → List ℕ → ℕ → ℕ → ℕ → Round
+openedFor s g line visits mark running = roundOf line (suc visits) mark running (Turn g (allowanceOf s g mark) 0)
+
+-- Steps 2 to 6, for the head of the line once a visit is left.
+module _ (Wanted : (ℕ → Flow) → Type 0) (back : Backwards Wanted) (s : Scheduler) (R : Rules s) (want : Wanted (flowAt s)) where
+  turn-runs : (g : ℕ) (line : List ℕ) (visits mark running : ℕ) → LineRules (flowAt s) [] (g ∷ line) mark running (suc visits)
+      → Serves Wanted s g (circle (flowAt s) (drop visits line) (g ∷ take visits line) NoTurn mark running)
+      (served (openedFor s g line visits mark running) (surplusCleared (flowAt s g)) g (allowanceOf s g mark) 0)
+  unfolding surplusCleared put
+  turn-runs g line visits mark running L final =
+      follows
+      (moves (turn-opens (renewed s R reach (surplusCleared x) r 0 (flowAt s) (λ f d. refl) refl refl) covered)
+      (back (flowAt s′) (flowAt s) still want))
+      (rw counted at
+      (serving-runs Wanted s R r g (allowanceOf s g mark) 0 (x .weight) 0 (x .slot) (flowAt s′) (at-others s g (surplusCleared x) r)
+      reach
+      (omega (arith, L .visits-in-line))
+      (omega (arith, owed, weighs x (R .flow-rules g) waits))
+      (omega arith)
+      (x .queue)
+      (here-now s R reach (surplusCleared x) r)
+      (R .flow-rules g .sizes-in-range)
+      waits
+      final))
+    where
+      x : Flow
+      x = flowAt s g
+
+      r : Round
+      r = openedFor s g line visits mark running
+
+      s′ : Scheduler
+      s′ = put s g (surplusCleared x) r
+
+      waits : x .queue ≡ [] → ⊥
+      waits = standing-waits L (count-head g line)
+
+      reach : g < flowLimit
+      reach = waiting-in-reach s g (R .all-flows) waits
+
+      still : (f : ℕ) → Waits (flowAt s f) → Waits (flowAt s′ f)
+      still = put-relates (λ y z. Waits y → Waits z) (λ y w. w) (s .flows) g (surplusCleared x) (λ w. w)
+
+      counted : suc visits - 1 ≡ visits
+      counted = omega arith
+
+      owed : x .surplus ≤ x .weight * mark
+      owed = L .owed-this-round g (omega (arith, count-head g (take visits line)))
+
+      covered : x .surplus ≤ x .weight * (1 + mark)
+      covered = omega (arith, owed)
+
+-- The departure call, on a state that is taken apart.
+module _ (Wanted : (ℕ → Flow) → Type 0) (back : Backwards Wanted) where
+  abbrev Departs : Scheduler → Type 0
+  Departs s =
+      Rules s
+      → Wanted (flowAt (departed s .state))
+      → Run Wanted (circleOf s) (circleOf (departed s .state)) (sentBy (departed s .reply)) (turnsOf 1 s)
+
+  departs : (flows : List Flow) (line : List ℕ) (visits mark running : ℕ) (turn : Serving) → Departs (record { flows = flows; round = roundOf line visits mark running turn })
+  unfolding departed visit visitBy roundStarted turnOpened RoundRules turnsOf turnThen put
+  departs flows line visits mark running (Turn g allowed sent) R final =
+      serving-runs Wanted s R (s .round) g allowed sent (x .weight) (x .surplus) (x .slot) (flowAt s) (λ f d. refl)
+      (waiting-in-reach s g (R .all-flows) waits)
+      (L .visits-in-line)
+      (T .more-may-be-sent)
+      (T .allowed-at-most)
+      (x .queue)
+      refl
+      (R .flow-rules g .sizes-in-range)
+      waits
+      final
+    where
+      s : Scheduler
+      s = record { flows = flows; round = roundOf line visits mark running (Turn g allowed sent) }
+
+      x : Flow
+      x = flowAt s g
+
+      L : LineRules (flowAt s) (g ∷ []) line mark running (visits - 1)
+      L = R .round-rules .0
+
+      T : TurnRules x visits mark allowed sent
+      T = R .round-rules .1
+
+      waits : x .queue ≡ [] → ⊥
+      waits = standing-waits L (count-head g line)
+  departs flows [] visits mark running NoTurn R final =
+      rw (put-back (record { flows = flows; round = roundOf [] visits mark running NoTurn }) 0) stands
+  departs flows (g ∷ line) zero mark running NoTurn R final =
+      let s : Scheduler = record { flows = flows; round = roundOf (g ∷ line) zero mark running NoTurn } in
+      let want : Wanted (flowAt s) = back (flowAt s) (flowAt (departed s .state)) (waited-before s) final in
+      follows
+      (moves (round-starts (R .round-rules .stands-once)) want)
+      (rw (drop-length line, take-length line) at
+      (turn-runs Wanted back s R want g line (length line) running 0 (rules-when-a-round-starts (R .round-rules)) final))
+  departs flows (g ∷ line) (suc visits) mark running NoTurn R final =
+      let s : Scheduler = record { flows = flows; round = roundOf (g ∷ line) (suc visits) mark running NoTurn } in
+      turn-runs Wanted back s R (back (flowAt s) (flowAt (departed s .state)) (waited-before s) final) g line visits mark running (R .round-rules) final
+
+  pub departure-runs : (s : Scheduler) → Departs s
+  departure-runs s = departs (s .flows) (s .round .line) (s .round .visits) (s .round .mark) (s .round .running) (s .round .turn)

@@ -1,0 +1,153 @@
+-- Every call that is no reset is a run of moves.
+use Prim.Native.Nat.{ℕ, zero, suc, _≤_, _<_}
+use mathlib.Core.Path.{_≡_, refl, sym, ap}
+use mathlib.Core.List.{List, [], _∷_, _++_}
+use native.Mathlib.Omega.{arith}
+use lib.ListN.{length}
+use lib.Seq.{take-append-le, drop-append-le}
+use Rattle.err.specs.Limits.{flowLimit}
+use Rattle.err.specs.Choose.{ifZero}
+use Rattle.err.specs.Model.{Flow, Round, Scheduler, flowAt}
+use Rattle.err.specs.Steps.{packetJoined, flowLined}
+use Rattle.err.specs.Calls.{put, openFlow, opened, offered, departed, departures, andThen, burst, burstMade, unlessRefused, openRefusal, offerRefusal, burstRefusal}
+use Rattle.err.specs.Rules.{RoundRules, Rules}
+use Rattle.err.specs.Replies.{sentBy}
+use Rattle.err.specs.Chain.{Call, resetting, opening, offering, departing, bursting, after, leaving}
+use Rattle.err.specs.declared.Sent.{Sent}
+use Rattle.err.specs.declared.Reply.{Reply}
+use Rattle.err.specs.declared.Reply.the-variants.{Departure, Idle, Refused}
+use Rattle.err.specs.declared.Serving.{Serving}
+use Rattle.err.specs.declared.Serving.the-variants.{NoTurn, Turn}
+use Rattle.err.specs.declared.Count.{Count}
+use Rattle.err.specs.declared.Count.the-variants.{Refused as CountRefused}
+use Rattle.err.proofs.Refusals.{may-open, may-offer}
+use Rattle.err.proofs.Flows.{at-others}
+use Rattle.err.proofs.Keeps.{departed-keeps}
+use Rattle.account.specs.Stretch.{turnThen, turnsOf, completing}
+use Rattle.account.proofs.Circle.{circleOf, visitsInLine, flow-joins, packet-joins, flow-opens, Run, stands, moves, follows, Renewed, Waits, Backwards}
+use Rattle.account.proofs.Departure.{flowOf, renewed, here-now, departure-runs, waited-before}
+
+-- The visits left are visits of flows in line.
+visits-fit : (flow : ℕ → Flow) (r : Round) (turn : Serving) → RoundRules flow r turn → visitsInLine turn (r .visits) ≤ length (r .line)
+unfolding RoundRules
+visits-fit flow r NoTurn L = L .visits-in-line
+visits-fit flow r (Turn g allowed sent) L = L .0 .visits-in-line
+
+module _ (Wanted : (ℕ → Flow) → Type 0) (s : Scheduler) (R : Rules s) where
+  -- Step 1.
+  packet-runs : (g size : ℕ) (reach : g < flowLimit) (w σ k : ℕ) (q : List ℕ) → flowAt s g ≡ flowOf w σ k q
+      → Wanted (flowAt (put s g (packetJoined (flowOf w σ k q) size) (flowLined (s .round) g (flowOf w σ k q))))
+      → Run Wanted (circleOf s) (circleOf (put s g (packetJoined (flowOf w σ k q) size) (flowLined (s .round) g (flowOf w σ k q)))) [] []
+  unfolding put packetJoined flowLined
+  packet-runs g size reach w σ k [] here W =
+      rw (drop-append-le n (s .round .line) (g ∷ []) fits, take-append-le n (s .round .line) (g ∷ []) fits)
+      (moves (flow-joins new not-waiting) W)
+    where
+      n : ℕ
+      n = visitsInLine (s .round .turn) (s .round .visits)
+
+      fits : n ≤ length (s .round .line)
+      fits = visits-fit (flowAt s) (s .round) (s .round .turn) (R .round-rules)
+
+      empty : flowAt s g .queue ≡ []
+      empty = ap (λ (x : Flow). x .queue) here
+
+      not-waiting : Waits (flowAt s g) → ⊥
+      not-waiting v = absurd (omega (arith, v, ap length empty))
+
+      new : Renewed g (flowAt s g .surplus) (flowAt s) (flowAt (put s g (flowOf w 0 k (size ∷ [])) (s .round)))
+      new =
+          renewed s R reach (flowOf w 0 k (size ∷ [])) (s .round) (flowAt s g .surplus) (flowAt s) (λ f d. refl)
+          (sym (ap (λ (x : Flow). x .weight) here))
+          (sym (R .flow-rules g .no-surplus-if-empty empty))
+  packet-runs g size reach w σ k (p ∷ q) here W =
+      moves
+      (packet-joins
+      (renewed s R reach (flowOf w σ k ((p ∷ q) ++ (size ∷ []))) (s .round) (flowAt s g .surplus) (flowAt s) (λ f d. refl)
+      (sym (ap (λ (x : Flow). x .weight) here))
+      (sym (ap (λ (x : Flow). x .surplus) here))))
+      W
+
+  -- A flow is opened that was not open.
+  opening-runs : (g weight : ℕ) (reach : g < flowLimit) → Wanted (flowAt (put s g (openFlow weight) (s .round)))
+      → Run Wanted (circleOf s) (circleOf (put s g (openFlow weight) (s .round))) [] []
+  unfolding put
+  opening-runs g weight reach =
+      moves
+      (flow-opens
+      (at-others s g (openFlow weight) (s .round))
+      (ap (λ (x : Flow). x .surplus) now)
+      (λ v. absurd (omega (arith, v, ap (λ (x : Flow). length (x .queue)) now))))
+    where
+      now : flowAt (put s g (openFlow weight) (s .round)) g ≡ openFlow weight
+      now = here-now s R reach (openFlow weight) (s .round)
+
+  -- A refusal changes nothing.
+  unless-refused-runs : (n : ℕ) (t : Scheduler) → (n ≡ 0 → Wanted (flowAt t) → Run Wanted (circleOf s) (circleOf t) [] [])
+      → Wanted (flowAt (unlessRefused n s t .state)) → Run Wanted (circleOf s) (circleOf (unlessRefused n s t .state)) [] []
+  unfolding unlessRefused
+  unless-refused-runs zero t effect W = effect refl W
+  unless-refused-runs (suc n) t effect W = stands
+
+  offered-runs : (g size : ℕ) → Wanted (flowAt (offered s g size .state)) → Run Wanted (circleOf s) (circleOf (offered s g size .state)) [] []
+  unfolding offered
+  offered-runs g size =
+      unless-refused-runs (offerRefusal g size (flowAt s g)) (put s g (packetJoined (flowAt s g) size) (flowLined (s .round) g (flowAt s g)))
+      (λ e. packet-runs g size (may-offer g size (flowAt s g) e .flow-in-range) (flowAt s g .weight) (flowAt s g .surplus) (flowAt s g .slot) (flowAt s g .queue) refl)
+
+  opened-runs : (g weight : ℕ) → Wanted (flowAt (opened s g weight .state)) → Run Wanted (circleOf s) (circleOf (opened s g weight .state)) [] []
+  unfolding opened
+  opened-runs g weight =
+      unless-refused-runs (openRefusal g weight (flowAt s g)) (put s g (openFlow weight) (s .round))
+      (λ e. opening-runs g weight (may-open g weight (flowAt s g) e .flow-in-range))
+
+-- A flow that waits after some departures waited before them.
+pub waited-before-all : (n : ℕ) (s : Scheduler) (f : ℕ) → Waits (flowAt (departures n s .state) f) → Waits (flowAt s f)
+unfolding departures andThen
+waited-before-all zero s f w = w
+waited-before-all (suc n) s f w = go (departed s .reply) (waited-before-all n (departed s .state) f) w
+  where
+    t : Scheduler
+    t = departed s .state
+
+    go : (reply : Reply) → (Waits (flowAt (departures n t .state) f) → Waits (flowAt t f))
+        → Waits (flowAt (andThen reply t (departures n t) .state) f) → Waits (flowAt s f)
+    go (Departure d) more w = waited-before s f (more w)
+    go Idle more w = waited-before s f w
+    go (Refused k) more w = waited-before s f w
+
+module _ (Wanted : (ℕ → Flow) → Type 0) (back : Backwards Wanted) where
+  abbrev pub Runs : Scheduler → Scheduler → List Sent → List Sent → Type 0
+  Runs s t l e = Wanted (flowAt t) → Run Wanted (circleOf s) (circleOf t) l e
+
+  departures-run : (n : ℕ) (s : Scheduler) → Rules s → Runs s (departures n s .state) (departures n s .sent) (turnsOf n s)
+  unfolding departures andThen turnsOf turnThen
+  departures-run zero s R W = stands
+  departures-run (suc n) s R W =
+      go (departed s .reply) (departed s .state .round .turn) (departure-runs Wanted back s R)
+      (departures-run n (departed s .state) (departed-keeps s R)) W
+    where
+      t : Scheduler
+      t = departed s .state
+
+      go : (reply : Reply) (turn : Serving) → Runs s t (sentBy reply) (turnThen reply turn [])
+          → Runs t (departures n t .state) (departures n t .sent) (turnsOf n t)
+          → Runs s (andThen reply t (departures n t) .state) (andThen reply t (departures n t) .sent) (turnThen reply turn (turnsOf n t))
+      go (Departure d) NoTurn one more W = follows (one (back (flowAt t) (flowAt (departures n t .state)) (waited-before-all n t) W)) (more W)
+      go (Departure d) (Turn g allowed sent) one more W = follows (one (back (flowAt t) (flowAt (departures n t .state)) (waited-before-all n t) W)) (more W)
+      go Idle turn one more W = one W
+      go (Refused k) turn one more W = one W
+
+  pub call-runs : (s : Scheduler) (c : Call) → Rules s → (c ≡ resetting → ⊥) → Runs s (after s c) (leaving s c) (completing s c)
+  unfolding after leaving completing burst burstMade
+  call-runs s resetting R no-reset W = absurd (no-reset refl)
+  call-runs s (opening g weight) R no-reset W = opened-runs Wanted s R g weight W
+  call-runs s (offering g size) R no-reset W = offered-runs Wanted s R g size W
+  call-runs s departing R no-reset W = departure-runs Wanted back s R W
+  call-runs s (bursting n list) R no-reset W = go (burstRefusal n list) (CountRefused (burstRefusal n list)) W
+    where
+      go : (k : ℕ) (c : Count)
+          → Runs s (ifZero k (burstMade list (departures n s)) (record { state = s; list = list; reply = c }) .state)
+          (ifZero k (departures n s .sent) []) (ifZero k (turnsOf n s) [])
+      go zero c W = departures-run n s R W
+      go (suc k) c W = stands

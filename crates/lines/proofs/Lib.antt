@@ -1,0 +1,7 @@
+-- `Lines` has the theorems for other crates to cite, over the laws of `Span` and `Decimal`. The other files serve this crate's proofs.
+mod Steps
+pub mod Span
+pub mod Decimal
+mod Numbers
+mod Fields
+pub mod Lines
