@@ -7,4 +7,5 @@ pub mod Refusals
 pub mod Keeps
 pub mod Standing
 pub mod Queues
+pub mod Told
 pub mod Demand2

@@ -46,7 +46,7 @@ unfolding settled excessKept
 settled-queue true r x f a n d = refl
 settled-queue false r x f a n d = refl
 
-settled-reply : (b : Bool) (r : Round) (x : Flow) (f a n : ℕ) (d : Reply) → settled b r x f a n d .reply ≡ d
+pub settled-reply : (b : Bool) (r : Round) (x : Flow) (f a n : ℕ) (d : Reply) → settled b r x f a n d .reply ≡ d
 unfolding settled
 settled-reply true r x f a n d = refl
 settled-reply false r x f a n d = refl

@@ -153,3 +153,11 @@ module _ (s : Scheduler) (R : Rules s) where
       empty [] e = refl
       empty (p ∷ q) e =
           absurd (omega (arith, rules .stands-once f, ap (count f) l, ap (λ (k : List ℕ). ifEmpty {A = ℕ} k 0 1) e))
+
+  -- In an open turn the allowance is at least the flow's weight.
+  pub turn-allowed-at-least-weight : (f allowed sent : ℕ) → s .round .turn ≡ Turn f allowed sent → flowAt s f .weight ≤ allowed
+  unfolding RoundRules
+  turn-allowed-at-least-weight f allowed sent t = from (at-turn (Turn f allowed sent) t)
+    where
+      from : RoundRules (flowAt s) (s .round) (Turn f allowed sent) → flowAt s f .weight ≤ allowed
+      from T = T .1 .allowed-at-least-weight
