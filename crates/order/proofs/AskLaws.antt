@@ -3,7 +3,6 @@ use Prim.Native.Nat.{ℕ, zero, suc, _≤_, _<_}
 use mathlib.Core.Path.{_≡_, refl, sym, ap, _∙_}
 use mathlib.Core.List.{List, []}
 use native.Mathlib.Omega.{arith}
-use lib.ListN.{length, replicate}
 use Rattle.err.specs.Limits.{flowLimit, weightLimit, queueLimit}
 use Rattle.err.specs.Choose.{ifZero}
 use Rattle.err.specs.Model.{Flow, Round}
@@ -12,7 +11,7 @@ use Rattle.err.specs.Calls.{openRefusal, offerRefusal, openFlow, answerOf}
 use Rattle.err.specs.declared.Answer.{Answer}
 use Rattle.err.specs.declared.Answer.the-variants.{Done, Refused}
 use Rattle.err.proofs.Refusals.{MayOpen, may-open, MayOffer, may-offer}
-use Rattle.order.specs.Encoding.{cells, encodeFlow, encodeRound, viewRound, viewFlow}
+use Rattle.order.specs.Encoding.{packed, encodeFlow, encodeRound, viewRound, viewFlow}
 use Rattle.order.specs.Premises.{FlowReady, RoundReady, HasRoom, openedParts, offeredParts}
 use Rattle.order.specs.declared.Asked.{Asked}
 use Rattle.order.specs.declared.FlowCell.{FlowCell}
@@ -30,9 +29,9 @@ module _ (r : RoundCell) (x : FlowCell) (f n : ℕ) (ready : FlowReady x) where
     may-open-here z = may-open f weight (viewFlow x) (sym e ∙ z)
 
     pub opened-law : n ≡ 0
-        → record { round = r; flow = record { weight = weight; surplus = 0; slot = 0; waiting = 0; sizes = replicate 8 0 }; answer = Done }
+        → record { round = r; flow = record { weight = weight; surplus = 0; slot = 0; waiting = 0; sizes = 0 }; answer = Done }
         ≡ openedParts r x f weight
-    unfolding openedParts encodeFlow cells
+    unfolding openedParts encodeFlow packed
     opened-law z =
         same-asked refl
         (ap encodeFlow (sym (zero-chosen (openRefusal f weight (viewFlow x)) (openFlow weight) (viewFlow x) (sym e ∙ z))))

@@ -1,17 +1,18 @@
 -- Lists in cells: one more, one less, and back. A flow that is encoded is seen again as it was.
-use Prim.Native.Nat.{ℕ, zero, suc, pred, _+_, _-_, _≤_, _<_}
-use mathlib.Core.Path.{_≡_, refl, sym, ap, ap₂, _∙_, subst}
-use mathlib.Core.List.{List, [], _∷_, _++_, map, append-assoc}
+use Prim.Native.Nat.{ℕ, zero, suc, _+_, _-_, _≤_, _<_}
+use mathlib.Core.Path.{_≡_, sym, ap, _∙_, subst}
+use mathlib.Core.List.{List, [], _∷_, _++_, append-assoc}
 use native.Mathlib.Omega.{arith}
-use lib.ListN.{length, getD, set, take, drop, replicate, length-append, length-replicate, length-map, replicate-append-replicate}
+use lib.ListN.{length, set, take, drop, replicate, length-append, length-replicate, replicate-append-replicate}
 use lib.Seq.{take-append-seam, set-append-seam}
-use Rattle.err.specs.Limits.{queueLimit, flowLimit, markLimit}
+use Rattle.err.specs.Limits.{flowLimit, markLimit}
 use Rattle.err.specs.Model.{Flow, Round, Scheduler}
-use Rattle.err.specs.Rules.{Sizes, none, one, FlowRules}
-use Rattle.order.specs.Encoding.{cells, encodeFlow, viewFlow, encodeRound, viewRound}
+use Rattle.err.specs.Rules.{Sizes, FlowRules}
+use Rattle.order.specs.Encoding.{cells, packed, encodeFlow, viewFlow, encodeRound, viewRound}
 use Rattle.order.specs.Premises.{FlowReady, RoundReady}
 use Rattle.order.specs.declared.FlowCell.{FlowCell}
 use Rattle.order.specs.declared.RoundCell.{RoundCell}
+use Rattle.order.proofs.Packed.{packed-seen}
 
 pub cells-length : (n : ℕ) (l : List ℕ) → length l ≤ n → length (cells n l) ≡ n
 unfolding cells
@@ -42,17 +43,10 @@ cells-left n p l h =
     ∙ ap (λ (t : List ℕ). l ++ t) (replicate-append-replicate (n - suc (length l)) 1 0)
     ∙ ap (λ (m : ℕ). l ++ replicate m 0) (sym longer)
 
-sizes-seen : {q : List ℕ} → Sizes q → map suc (map pred q) ≡ q
-sizes-seen none = refl
-sizes-seen (one {p} h k more) = let back : suc (pred p) ≡ p = omega arith in ap₂ (λ (a : ℕ) (l : List ℕ). a ∷ l) back (sizes-seen more)
-
 pub flow-seen : (x : Flow) → Sizes (x .queue) → viewFlow (encodeFlow x) ≡ x
 unfolding viewFlow encodeFlow
 flow-seen x h =
-    ap (λ (q : List ℕ). record { weight = x .weight; surplus = x .surplus; slot = x .slot; queue = q })
-    (ap (λ (n : ℕ). map suc (take n (cells queueLimit (map pred (x .queue))))) (sym (length-map (x .queue) pred))
-    ∙ ap (map suc) (cells-seen queueLimit (map pred (x .queue)))
-    ∙ sizes-seen h)
+    ap (λ (q : List ℕ). record { weight = x .weight; surplus = x .surplus; slot = x .slot; queue = q }) (packed-seen h)
 
 pub flow-ready : (x : Flow) → FlowRules x → FlowReady (encodeFlow x)
 flow-ready x R =
@@ -67,7 +61,7 @@ module _ (x : FlowCell) (form : x ≡ encodeFlow (viewFlow x)) where
   unfolding encodeFlow
   waiting-is = ap (λ (c : FlowCell). c .waiting) form
 
-  pub sizes-are : x .sizes ≡ cells queueLimit (map pred (viewFlow x .queue))
+  pub sizes-are : x .sizes ≡ packed (viewFlow x .queue)
   unfolding encodeFlow
   sizes-are = ap (λ (c : FlowCell). c .sizes) form
 

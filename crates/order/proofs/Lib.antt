@@ -1,6 +1,7 @@
--- Laws that belong to no one function: Shifting (taking out the first byte, step by step), Encoded (lists in cells, flows, rounds and states, and
--- back), FlowLaws and RoundLaws (from what a function stores to what the model's step says).
+-- Laws that belong to no one function: Shifting (taking out the first byte, step by step), Packed (sizes as the digits of one number), Encoded (lists
+-- in cells, flows, rounds and states, and back), FlowLaws and RoundLaws (from what a function stores to what the model's step says).
 pub mod Shifting
+pub mod Packed
 pub mod Encoded
 pub mod FlowLaws
 pub mod RoundLaws

@@ -38,7 +38,7 @@ use Rattle.order.proofs.RoundLaws.{zero-chosen, positive-chosen}
 
 -- What reading past the end of the flows would give.
 abbrev noCell : FlowCell
-noCell = record { weight = 0; surplus = 0; slot = 0; waiting = 0; sizes = [] }
+noCell = record { weight = 0; surplus = 0; slot = 0; waiting = 0; sizes = 0 }
 
 flows-seen : (l : List Flow) → ((f : ℕ) → Sizes (getD l f closedFlow .queue)) → map viewFlow (map encodeFlow l) ≡ l
 flows-seen [] h = refl

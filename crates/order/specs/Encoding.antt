@@ -1,10 +1,10 @@
--- The state as code keeps it stands for one scheduler of the model. Lists lie in arrays from the start, with zeros behind, so that a scheduler
--- has one form only. A packet's size lies as one less, so that 256 fits a byte.
-use Prim.Native.Nat.{ℕ, suc, pred, _-_}
+-- The state as code keeps it stands for one scheduler of the model, and a scheduler has one form only. The line lies in an array from the start,
+-- with zeros behind. The sizes of a flow's waiting packets, each less one, are the digits of one number in base 256, the first packet's lowest.
+use Prim.Native.Nat.{ℕ, zero, suc, pred, _+_, _*_, _-_, _/_, _%_}
 use mathlib.Core.Path.{_≡_}
-use mathlib.Core.List.{List, _++_, map}
+use mathlib.Core.List.{List, [], _∷_, _++_, map}
 use lib.ListN.{length, take, replicate}
-use Rattle.err.specs.Limits.{flowLimit, queueLimit}
+use Rattle.err.specs.Limits.{flowLimit, sizeLimit}
 use Rattle.err.specs.Model.{Flow, Round, Scheduler}
 use Rattle.err.specs.Rules.{FlowRules, Rules}
 use Rattle.err.specs.Steps.{Visit}
@@ -17,6 +17,15 @@ use Rattle.order.specs.declared.Visited.{Visited}
 unfoldable pub cells : ℕ → List ℕ → List ℕ
 cells n l = l ++ replicate (n - length l) 0
 
+-- Sizes as one number; and back from it, by how many there are, since a size of 1 is a digit 0 and a number shows no zeros above its highest digit.
+unfoldable pub packed : List ℕ → ℕ
+packed [] = 0
+packed (p ∷ q) = pred p + sizeLimit * packed q
+
+unfoldable pub unpacked : ℕ → ℕ → List ℕ
+unpacked zero n = []
+unpacked (suc k) n = suc (n % sizeLimit) ∷ unpacked k (n / sizeLimit)
+
 unfoldable pub encodeFlow : Flow → FlowCell
 encodeFlow x =
     record {
@@ -24,11 +33,11 @@ encodeFlow x =
       surplus = x .surplus;
       slot = x .slot;
       waiting = length (x .queue);
-      sizes = cells queueLimit (map pred (x .queue));
+      sizes = packed (x .queue);
     }
 
 unfoldable pub viewFlow : FlowCell → Flow
-viewFlow c = record { weight = c .weight; surplus = c .surplus; slot = c .slot; queue = map suc (take (c .waiting) (c .sizes)) }
+viewFlow c = record { weight = c .weight; surplus = c .surplus; slot = c .slot; queue = unpacked (c .waiting) (c .sizes) }
 
 unfoldable pub encodeRound : Round → RoundCell
 encodeRound r =

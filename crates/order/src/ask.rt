@@ -81,7 +81,7 @@ pub fn opened(r: RoundCell, x: FlowCell, f: usize, weight: usize) -> Asked
             surplus: 0,
             slot: 0,
             waiting: 0,
-            sizes: [0u8; 8],
+            sizes: 0,
         };
         Asked {
             round: r,

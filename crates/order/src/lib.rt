@@ -13,13 +13,13 @@ mod flow;
 mod round;
 mod turn;
 
-// One flow: the sizes of its waiting packets lie in the first cells, each less one so that 256 fits a byte.
+// One flow: the sizes of its waiting packets, each less one so that 256 fits a byte, are the digits of one number in base 256, the first packet's lowest.
 pub struct FlowCell {
     pub weight: u8,
     pub surplus: u8,
     pub slot: u8,
     pub waiting: u8,
-    pub sizes: [u8; 8],
+    pub sizes: u64,
 }
 
 // The round: the flow numbers of the line lie in the first cells.
@@ -77,7 +77,7 @@ impl State {
             surplus: 0,
             slot: 0,
             waiting: 0,
-            sizes: [0u8; 8],
+            sizes: 0,
         };
         let round = RoundCell {
             line: [0u8; 32],

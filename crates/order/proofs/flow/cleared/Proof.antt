@@ -4,7 +4,7 @@ use Rattle.order.proofs.flow.cleared.Statement.{statement}
 use Rattle.order.proofs.flow.cleared.Tie as tie
 
 returns : tie.Need-returns
-returns c = cleared-law (c .before .args .x) (c .before .pre)
+returns c = cleared-law (c .args .x) (c .pre)
 
 pub cleared-spec : {M : Type 1} → statement M
 cleared-spec = tie.close (tie.spec returns)

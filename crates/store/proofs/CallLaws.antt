@@ -1,0 +1,136 @@
+-- The store calls case by case: by the number of the refusal, and by what the order layer replies.
+use Prim.Native.Nat.{ℕ, zero, suc, _≤_, _<_}
+use mathlib.Core.Path.{_≡_, refl, sym, ap, _∙_}
+use mathlib.Core.List.{List, _++_}
+use mathlib.Core.Bool.{Bool, cond}
+use native.Mathlib.Omega.{arith}
+use native.Mathlib.Decide.{decLt, ℕ-discrete}
+use lib.ListN.{length, drop}
+use lib.Dec.{ltb, eqb}
+use borrow.Author.Tests.{eq-eqb, ne-eqb, lt-ltb, le-ltb}
+use Rattle.err.specs.Choose.{ifZero}
+use Rattle.err.specs.Model.{Scheduler, flowAt}
+use Rattle.err.specs.Calls.{Outcome, offerRefusal, offered, departed, answerOf, unlessRefused}
+use Rattle.err.specs.declared.Answer.{Answer}
+use Rattle.err.specs.declared.Answer.the-variants.{Done, Refused as AnswerRefused}
+use Rattle.err.specs.declared.Reply.{Reply}
+use Rattle.err.specs.declared.Reply.the-variants.{Departure, Idle, Refused}
+use Rattle.err.specs.declared.Sent.{Sent}
+use Rattle.store.specs.Slots.{storeLength, outLimit, nextSlotOf, written, held}
+use Rattle.store.specs.Calls.{AfterOffer, AfterDeparture, storeOfferRefusal, storeOffer, storeDepartRefusal, storeDepart, sentOut}
+
+-- An answer tells whether the call was refused, and with which number.
+pub done-number : (n : ℕ) → answerOf n ≡ Done → n ≡ 0
+done-number zero e = refl
+done-number (suc n) e = let z : _≡_ {A = ℕ} 0 1 = cc in absurd (omega arith)
+
+pub refused-number : (n k : ℕ) → answerOf n ≡ AnswerRefused k → n ≡ 0 → ⊥
+refused-number zero k e h = let z : _≡_ {A = ℕ} 0 1 = cc in absurd (omega arith)
+refused-number (suc n) k e h = absurd (omega arith)
+
+-- Where a number is 0 one choice is made, and otherwise the other.
+pub at-zero : {A : Type 0} (n : ℕ) (x y : A) → n ≡ 0 → ifZero n x y ≡ x
+at-zero n x y e = ap (λ (k : ℕ). ifZero k x y) e
+
+pub at-positive : {A : Type 0} (n : ℕ) (x y : A) → (n ≡ 0 → ⊥) → ifZero n x y ≡ y
+at-positive zero x y d = absurd (d refl)
+at-positive (suc n) x y d = refl
+
+chosen-twice : {A : Type 0} (n : ℕ) (x y : A) → ifZero n (ifZero n x y) y ≡ ifZero n x y
+chosen-twice zero x y = refl
+chosen-twice (suc n) x y = refl
+
+module _ (s : Scheduler) (f : ℕ) (packet store : List ℕ) where
+  pub offer-wrong-store : (length store ≡ storeLength → ⊥) → storeOfferRefusal s f packet store ≡ 8
+  offer-wrong-store d = ap (λ (t : Bool). cond t (offerRefusal f (length packet) (flowAt s f)) 8) (ne-eqb (length store) storeLength d)
+
+  pub offer-right-store : length store ≡ storeLength → storeOfferRefusal s f packet store ≡ offerRefusal f (length packet) (flowAt s f)
+  offer-right-store e = ap (λ (t : Bool). cond t (offerRefusal f (length packet) (flowAt s f)) 8) (eq-eqb (length store) storeLength e)
+
+  pub offer-may : storeOfferRefusal s f packet store ≡ 0 → (length store ≡ storeLength) × (offerRefusal f (length packet) (flowAt s f) ≡ 0)
+  offer-may e =
+      elim (ℕ-discrete (length store) storeLength) [
+        | yes all ↦ (all, sym (offer-right-store all) ∙ e)
+        | no d ↦ absurd (omega (arith, offer-wrong-store d, e))
+      ]
+
+  -- Where the store has its length, state and answer are the order layer's.
+  pub offer-state : length store ≡ storeLength → storeOffer s f packet store .state ≡ offered s f (length packet) .state
+  unfolding storeOffer offered unlessRefused
+  offer-state e =
+      ap (λ (n : ℕ). ifZero n (offered s f (length packet) .state) s) (offer-right-store e)
+      ∙ chosen-twice (offerRefusal f (length packet) (flowAt s f)) _ s
+
+  pub offer-answer : length store ≡ storeLength → storeOffer s f packet store .answer ≡ offered s f (length packet) .reply
+  unfolding storeOffer offered unlessRefused
+  offer-answer e = ap answerOf (offer-right-store e)
+
+  -- By the number of the refusal.
+  pub offer-refused : (storeOfferRefusal s f packet store ≡ 0 → ⊥) → (storeOffer s f packet store .state ≡ s) × (storeOffer s f packet store .store ≡ store)
+  unfolding storeOffer
+  offer-refused d = (at-positive (storeOfferRefusal s f packet store) _ s d, at-positive (storeOfferRefusal s f packet store) _ store d)
+
+  pub offer-stores : storeOfferRefusal s f packet store ≡ 0 → storeOffer s f packet store .store ≡ written store f (nextSlotOf (flowAt s f)) packet
+  unfolding storeOffer
+  offer-stores e = at-zero (storeOfferRefusal s f packet store) (written store f (nextSlotOf (flowAt s f)) packet) store e
+
+  pub offer-number : storeOffer s f packet store .answer ≡ answerOf (storeOfferRefusal s f packet store)
+  unfolding storeOffer
+  offer-number = refl
+
+module _ (s : Scheduler) (store out : List ℕ) where
+  pub depart-wrong-store : (length store ≡ storeLength → ⊥) → storeDepartRefusal store out ≡ 8
+  depart-wrong-store d = ap (λ (t : Bool). cond t (cond (ltb (length out) outLimit) 7 0) 8) (ne-eqb (length store) storeLength d)
+
+  pub depart-right-store : length store ≡ storeLength → storeDepartRefusal store out ≡ cond (ltb (length out) outLimit) 7 0
+  depart-right-store e = ap (λ (t : Bool). cond t (cond (ltb (length out) outLimit) 7 0) 8) (eq-eqb (length store) storeLength e)
+
+  pub depart-short-out : length store ≡ storeLength → length out < outLimit → storeDepartRefusal store out ≡ 7
+  depart-short-out e h = depart-right-store e ∙ ap (λ (t : Bool). cond t 7 0) (lt-ltb (length out) outLimit h)
+
+  pub depart-may : length store ≡ storeLength → outLimit ≤ length out → storeDepartRefusal store out ≡ 0
+  depart-may e h = depart-right-store e ∙ ap (λ (t : Bool). cond t 7 0) (le-ltb (length out) outLimit h)
+
+  pub departs : storeDepartRefusal store out ≡ 0 → (length store ≡ storeLength) × (outLimit ≤ length out)
+  departs e =
+      elim (ℕ-discrete (length store) storeLength) [
+        | yes all ↦
+            elim (decLt (length out) outLimit) [
+              | yes short ↦ absurd (omega (arith, depart-short-out all short, e))
+              | no long ↦ (all, omega arith)
+            ]
+        | no d ↦ absurd (omega (arith, depart-wrong-store d, e))
+      ]
+
+  -- By the number of the refusal.
+  pub depart-refused : (n : ℕ) → storeDepartRefusal store out ≡ suc n
+      → (storeDepart s store out .state ≡ s) × (storeDepart s store out .out ≡ out) × (storeDepart s store out .reply ≡ Refused (suc n))
+  unfolding storeDepart
+  depart-refused n e = (
+    ap (λ (k : ℕ). ifZero k (departed s .state) s) e,
+    ap (λ (k : ℕ). ifZero k (sentOut (departed s .reply) s store out) out) e,
+    ap (λ (k : ℕ). ifZero k (departed s .reply) (Refused k)) e,
+  )
+
+  pub depart-made : storeDepartRefusal store out ≡ 0
+      → (storeDepart s store out .state ≡ departed s .state)
+      × (storeDepart s store out .out ≡ sentOut (departed s .reply) s store out)
+      × (storeDepart s store out .reply ≡ departed s .reply)
+  unfolding storeDepart
+  depart-made e = (
+    ap (λ (k : ℕ). ifZero k (departed s .state) s) e,
+    ap (λ (k : ℕ). ifZero k (sentOut (departed s .reply) s store out) out) e,
+    ap (λ (k : ℕ). ifZero k (departed s .reply) (Refused k)) e,
+  )
+
+  -- By the order layer's reply.
+  pub sent-departure : (reply : Reply) (d : Sent) → reply ≡ Departure d
+      → sentOut reply s store out ≡ held store (d .flow) (flowAt s (d .flow) .slot) (d .size) ++ drop (d .size) out
+  unfolding sentOut
+  sent-departure reply d e = ap (λ (r : Reply). sentOut r s store out) e
+
+  pub sent-nothing : (reply : Reply) → ((d : Sent) → reply ≡ Departure d → ⊥) → sentOut reply s store out ≡ out
+  unfolding sentOut
+  sent-nothing (Departure d) no-departure = absurd (no-departure d refl)
+  sent-nothing Idle no-departure = refl
+  sent-nothing (Refused k) no-departure = refl

@@ -1,0 +1,19 @@
+-- What is proved of the store layer. A reader of promises looks at Settled (no second outcome meets a contract), Unchanged (refusals and idle), Kept
+-- (demand 2 on bytes), Blind (stored bytes do not choose), Followed (a chain of calls of the code is one of the definitions) and, in SlotLaws, that
+-- slots are apart.
+pub mod Settled
+pub mod Unchanged
+pub mod Kept
+pub mod Blind
+pub mod Followed
+-- What these and the function files rest on: Copying (the loop that copies), SlotLaws (where bytes lie), Departing (which packet leaves), CallLaws (the
+-- store calls case by case), SiteLaws (from the order layer's calls to a site's), Lending (how much of the store is lent), WaitingLaws and Balances
+-- (the bytes that wait, call by call).
+pub mod Copying
+pub mod SlotLaws
+pub mod Departing
+pub mod CallLaws
+pub mod SiteLaws
+pub mod Lending
+pub mod WaitingLaws
+pub mod Balances

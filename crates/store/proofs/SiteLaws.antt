@@ -1,0 +1,220 @@
+-- From what the order layer's calls give to what a site's calls promise.
+use Prim.Native.Nat.{ℕ, zero, suc, _+_, _*_, _%_, _≤_, _<_}
+use mathlib.Core.Path.{_≡_, refl, sym, ap, ap₂, _∙_}
+use mathlib.Core.List.{List, [], _++_}
+use native.Mathlib.Omega.{arith}
+use lib.ListN.{length, getD, drop}
+use mir.Syntax.{w64}
+use mir.Val.{Fits}
+use Rattle.err.specs.Limits.{flowLimit, queueLimit, sizeLimit}
+use Rattle.err.specs.Model.{Flow, Scheduler, flowAt, newScheduler}
+use Rattle.err.specs.Calls.{Outcome, opened, offerRefusal, offered, unlessRefused, departed, answerOf}
+use Rattle.err.specs.Rules.{Sizes, FlowRules}
+use Rattle.err.specs.declared.Answer.{Answer}
+use Rattle.err.specs.declared.Answer.the-variants.{Done, Refused as AnswerRefused}
+use Rattle.err.specs.declared.Reply.{Reply}
+use Rattle.err.specs.declared.Reply.the-variants.{Departure, Idle, Refused}
+use Rattle.err.specs.declared.Sent.{Sent}
+use Rattle.err.proofs.Flows.{first-in-range}
+use Rattle.err.proofs.Refusals.{MayOffer, may-offer}
+use Rattle.order.specs.Encoding.{encode, viewFlow, view, Sound}
+use Rattle.order.specs.Premises.{FlowReady}
+use Rattle.order.specs.Promised as order
+use Rattle.order.specs.declared.Answered.{Answered}
+use Rattle.order.specs.declared.Departed.{Departed}
+use Rattle.order.specs.declared.FlowCell.{FlowCell}
+use Rattle.order.specs.declared.State.{State}
+use Rattle.order.proofs.Encoded.{waiting-is}
+use Rattle.order.proofs.StateLaws.{cell-seen}
+use Rattle.store.specs.Slots.{storeLength, outLimit, nextSlotOf, written, held}
+use Rattle.store.specs.Calls.{storeOffer, storeOfferRefusal, storeDepart, storeDepartRefusal, sentOut}
+use Rattle.store.specs.Promised.{schedulerOf, SoundSite, siteOf, answeredAs, departedAs, NewGives, OpenGives, OfferGives, DepartGives}
+use Rattle.store.specs.declared.Site.{Site}
+use Rattle.store.specs.declared.SiteAnswered.{SiteAnswered}
+use Rattle.store.specs.declared.SiteDeparted.{SiteDeparted}
+use Rattle.store.proofs.CallLaws.{done-number, refused-number, offer-wrong-store, offer-right-store, offer-state, offer-answer, offer-refused, offer-stores, offer-number, depart-wrong-store, depart-short-out, depart-may, depart-refused, depart-made, sent-departure, sent-nothing}
+use Rattle.store.proofs.Departing.{Leaves, departed-leaves}
+
+-- What reading past the end of the flows would give.
+abbrev pub noCell : FlowCell
+noCell = record { weight = 0; surplus = 0; slot = 0; waiting = 0; sizes = 0 }
+
+-- Numbers in range fit the machine's.
+pub flow-fits : (f : ℕ) → f < flowLimit → Fits w64 f
+flow-fits f h = omega arith
+
+pub place-fits : (f : ℕ) → f < flowLimit → Fits w64 (f * 16)
+place-fits f h = omega arith
+
+pub size-fits : (n : ℕ) → n ≤ sizeLimit → Fits w64 n
+size-fits n h = omega arith
+
+pub next-in-reach : (k : ℕ) (cells : List FlowCell) (f : ℕ) → k ≡ nextSlotOf (viewFlow (getD cells f noCell)) → k < queueLimit
+next-in-reach k cells f e = omega arith
+
+-- The slot that a flow's next packet takes, from its cell.
+module _ (x : FlowCell) (h : FlowReady x) where
+  pub slots-fit : x .slot + x .waiting < queueLimit + queueLimit
+  unfolding viewFlow
+  slots-fit = omega (arith, waiting-is x (h .form), h .rules .slot-in-range, h .rules .waiting-in-range)
+
+  pub next-slot-law : (x .slot + x .waiting) % queueLimit ≡ nextSlotOf (viewFlow x)
+  unfolding viewFlow
+  next-slot-law = ap (λ (n : ℕ). (x .slot + n) % queueLimit) (waiting-is x (h .form))
+
+pub new-law : (o : State) → order.GivesNew o → NewGives (record { order = o })
+unfolding siteOf
+new-law o g = record { outcome = ap (λ (k : State). record { order = k }) (g .outcome); sound = g .sound }
+
+pub open-law : (site : Site) (f weight : ℕ) (a : Answered) → order.OpenGives (site .order) f weight a
+    → OpenGives site f weight (record { site = record { order = a .state }; answer = a .answer })
+unfolding answeredAs siteOf schedulerOf order.answeredAs
+open-law site f weight a g =
+    record {
+      outcome = ap (λ (k : Answered). record { site = record { order = k .state }; answer = k .answer }) (g .outcome);
+      sound = g .sound;
+    }
+
+module _ (site : Site) (S : SoundSite site) where
+  abbrev s : Scheduler
+  s = schedulerOf site
+
+  -- A site is the form of the scheduler that it stands for.
+  pub site-form : site ≡ siteOf s
+  unfolding siteOf schedulerOf
+  site-form = ap (λ (o : State). record { order = o }) (S .form)
+
+  -- A flow's cell stands for the flow.
+  pub cell-of : (f : ℕ) → f < flowLimit → viewFlow (getD (site .order .flows) f noCell) ≡ flowAt s f
+  unfolding schedulerOf
+  cell-of f h = cell-seen (site .order) S f h
+
+  rules-of : (f : ℕ) → FlowRules (flowAt s f)
+  unfolding schedulerOf
+  rules-of f = S .rules .flow-rules f
+
+  module _ (f : ℕ) (packet store : List ℕ) where
+    pub wrong-store-offer : (length store ≡ storeLength → ⊥) → OfferGives site f packet store store (record { site = site; answer = AnswerRefused 8 })
+    unfolding answeredAs
+    wrong-store-offer d =
+        let eight : storeOfferRefusal s f packet store ≡ 8 = offer-wrong-store s f packet store d in
+        let kept = offer-refused s f packet store (λ e. absurd (omega arith)) in
+        record {
+          outcome =
+              ap (λ (k : Site). record { site = k; answer = AnswerRefused 8 }) site-form
+              ∙ sym (ap₂ answeredAs (kept .0) (offer-number s f packet store ∙ ap answerOf eight));
+          stored = sym (kept .1);
+          sound = S;
+        }
+
+    module _ (all : length store ≡ storeLength) (a : Answered) (g : order.OfferGives (site .order) f (length packet) a) where
+      answer-is : a .answer ≡ answerOf (offerRefusal f (length packet) (flowAt s f))
+      unfolding schedulerOf order.answeredAs offered unlessRefused
+      answer-is = ap (λ (k : Answered). k .answer) (g .outcome)
+
+      -- Where the store has its length, state and answer are what the order layer gives.
+      outcome-is : record { site = record { order = a .state }; answer = a .answer }
+          ≡ answeredAs (storeOffer s f packet store .state) (storeOffer s f packet store .answer)
+      unfolding answeredAs siteOf schedulerOf order.answeredAs
+      outcome-is =
+          ap (λ (k : Answered). record { site = record { order = k .state }; answer = k .answer }) (g .outcome)
+          ∙ sym (ap₂ answeredAs (offer-state s f packet store all) (offer-answer s f packet store all))
+
+      pub accepted : a .answer ≡ Done → MayOffer f (length packet) (flowAt s f)
+      accepted e = may-offer f (length packet) (flowAt s f) (done-number (offerRefusal f (length packet) (flowAt s f)) (sym answer-is ∙ e))
+
+      pub refused-offer : (n : ℕ) → a .answer ≡ AnswerRefused n
+          → OfferGives site f packet store store (record { site = record { order = a .state }; answer = a .answer })
+      refused-offer n e =
+          record {
+            outcome = outcome-is;
+            stored =
+                sym (offer-refused s f packet store (λ z. refused-number (offerRefusal f (length packet) (flowAt s f)) n (sym answer-is ∙ e) (sym (offer-right-store s f packet store all) ∙ z)) .1);
+            sound = g .sound;
+          }
+
+      -- The packet is written in the slot that was read off the state before the call.
+      pub accepted-offer : a .answer ≡ Done → (k : ℕ) (after : List ℕ) → k ≡ nextSlotOf (viewFlow (getD (site .order .flows) f noCell))
+          → after ≡ written store f k packet
+          → OfferGives site f packet store after (record { site = record { order = a .state }; answer = a .answer })
+      accepted-offer e k after at w =
+          record {
+            outcome = outcome-is;
+            stored =
+                w
+                ∙ ap (λ (j : ℕ). written store f j packet) (at ∙ ap nextSlotOf (cell-of f (accepted e .flow-in-range)))
+                ∙ sym (offer-stores s f packet store (offer-right-store s f packet store all ∙ done-number (offerRefusal f (length packet) (flowAt s f)) (sym answer-is ∙ e)));
+            sound = g .sound;
+          }
+
+  module _ (store out : List ℕ) where
+    refused-departure : (n : ℕ) → storeDepartRefusal store out ≡ suc n → DepartGives site store out out (record { site = site; reply = Refused (suc n) })
+    unfolding departedAs
+    refused-departure n e =
+        let kept = depart-refused s store out n e in
+        record {
+          outcome = ap (λ (k : Site). record { site = k; reply = Refused (suc n) }) site-form ∙ sym (ap₂ departedAs (kept .0) (kept .2));
+          sent = sym (kept .1);
+          sound = S;
+        }
+
+    pub wrong-store-departure : (length store ≡ storeLength → ⊥) → DepartGives site store out out (record { site = site; reply = Refused 8 })
+    wrong-store-departure d = refused-departure 7 (depart-wrong-store s store out d)
+
+    pub short-out-departure : length store ≡ storeLength → length out < outLimit → DepartGives site store out out (record { site = site; reply = Refused 7 })
+    short-out-departure e h = refused-departure 6 (depart-short-out s store out e h)
+
+    module _ (all : length store ≡ storeLength) (room : outLimit ≤ length out) (a : Departed) (g : order.DepartGives (site .order) a) where
+      may : storeDepartRefusal store out ≡ 0
+      may = depart-may s store out all room
+
+      reply-is : a .reply ≡ departed s .reply
+      unfolding schedulerOf order.departedAs
+      reply-is = ap (λ (k : Departed). k .reply) (g .outcome)
+
+      departure-outcome : record { site = record { order = a .state }; reply = a .reply }
+          ≡ departedAs (storeDepart s store out .state) (storeDepart s store out .reply)
+      unfolding departedAs siteOf schedulerOf order.departedAs
+      departure-outcome =
+          ap (λ (k : Departed). record { site = record { order = k .state }; reply = k .reply }) (g .outcome)
+          ∙ sym (ap₂ departedAs (depart-made s store out may .0) (depart-made s store out may .2))
+
+      pub no-departure : ((d : Sent) → a .reply ≡ Departure d → ⊥)
+          → DepartGives site store out out (record { site = record { order = a .state }; reply = a .reply })
+      no-departure none =
+          record {
+            outcome = departure-outcome;
+            sent = sym (depart-made s store out may .1 ∙ sent-nothing s store out (departed s .reply) (λ d e. none d (reply-is ∙ e)));
+            sound = g .sound;
+          }
+
+      module _ (d : Sent) (e : a .reply ≡ Departure d) where
+        pub leaves : Leaves s d (departed s .state)
+        unfolding schedulerOf
+        leaves = departed-leaves s (S .rules) d (sym reply-is ∙ e)
+
+        pub flow-in-reach : d .flow < flowLimit
+        flow-in-reach = leaves .in-reach
+
+        pub size-in-range : d .size ≤ sizeLimit
+        size-in-range = first-in-range (rw (leaves .first-in-queue) at (rules-of (d .flow) .sizes-in-range)) .1
+
+        module _ (k : ℕ) (at : k ≡ viewFlow (getD (site .order .flows) (d .flow) noCell) .slot) where
+          slot-is : k ≡ flowAt s (d .flow) .slot
+          slot-is = at ∙ ap (λ (x : Flow). x .slot) (cell-of (d .flow) flow-in-reach)
+
+          pub slot-in-reach : k < queueLimit
+          slot-in-reach = omega (arith, slot-is, rules-of (d .flow) .slot-in-range)
+
+          -- The bytes lay in the slot that was read off the state before the call.
+          pub sent-departed : (after : List ℕ) → after ≡ held store (d .flow) k (d .size) ++ drop (d .size) out
+              → DepartGives site store out after (record { site = record { order = a .state }; reply = Departure d })
+          sent-departed after w =
+              record {
+                outcome = ap (λ (r : Reply). record { site = record { order = a .state }; reply = r }) (sym e) ∙ departure-outcome;
+                sent =
+                    w
+                    ∙ ap (λ (j : ℕ). held store (d .flow) j (d .size) ++ drop (d .size) out) slot-is
+                    ∙ sym (depart-made s store out may .1 ∙ sent-departure s store out (departed s .reply) d (sym reply-is ∙ e));
+                sound = g .sound;
+              }

@@ -1,0 +1,6 @@
+-- The store layer: where a packet's bytes lie (Slots), what the two store calls do (Calls), what each public call promises (Promised), and lists of
+-- calls on one site and one store (Chain).
+pub mod Slots
+pub mod Calls
+pub mod Promised
+pub mod Chain

@@ -1,0 +1,118 @@
+// The calls on packet bytes: document 01's store layer. A site is a scheduler whose packets lie in one store: only open, reset and the store
+// calls drive it. The store is the caller's, and is lent to each call.
+ghost use Rattle.store.specs.Promised.{SoundSite, NewGives, OpenGives, OfferGives, DepartGives};
+use err::Answer;
+use err::Reply;
+use err::SIZE_LIMIT;
+use order::State;
+
+mod bytes;
+mod slots;
+
+// The store is exactly 65,536 bytes.
+pub const STORE_LENGTH: usize = 65536;
+
+// Document 01's refusals of the store layer, by number.
+pub const OUT_SHORT: u8 = 7;
+
+pub const STORE_WRONG: u8 = 8;
+
+pub struct Site {
+    pub order: State,
+}
+
+// The replies, each with the site handed back beside it.
+pub struct SiteAnswered {
+    pub site: Site,
+    pub answer: Answer,
+}
+
+pub struct SiteDeparted {
+    pub site: Site,
+    pub reply: Reply,
+}
+
+impl Site {
+    pub fn new() -> Site
+        ensures { λ r. ⌜ NewGives r ⌝ }
+    {
+        Site {
+            order: State::new(),
+        }
+    }
+
+    pub fn reset(self) -> Site
+        ensures { λ r. ⌜ NewGives r ⌝ }
+    {
+        Site::new()
+    }
+
+    pub fn open(self, f: usize, weight: usize) -> SiteAnswered
+        requires { ⌜ SoundSite self ⌝ }
+        ensures { λ r. ⌜ OpenGives self f weight r ⌝ }
+    {
+        let order = self.order;
+        let asked = order.open(f, weight);
+        let state = asked.state;
+        let answer = asked.answer;
+        SiteAnswered {
+            site: Site { order: state },
+            answer: answer,
+        }
+    }
+
+    // Writes the packet's bytes in the slot that the flow's next packet takes.
+    pub fn offer(self, f: usize, packet: &[u8], store: &mut [u8]) -> SiteAnswered
+        requires { ⌜ SoundSite self ⌝ }
+        ensures { λ r. ⌜ OfferGives self f (now (packet .entry)) (now (store .entry)) (now (store .exit)) r ⌝ }
+    {
+        if store.len() != STORE_LENGTH {
+            return SiteAnswered {
+                site: self,
+                answer: Answer::Refused(STORE_WRONG),
+            };
+        }
+        let order = self.order;
+        let asked = order.offer(f, packet.len());
+        let state = asked.state;
+        let answer = asked.answer;
+        if let Answer::Done = answer {
+            slots::write(store, f, slots::next(order.flows[f]), packet);
+        }
+        SiteAnswered {
+            site: Site { order: state },
+            answer: answer,
+        }
+    }
+
+    // Copies the departing packet's bytes to the start of the outgoing buffer.
+    pub fn depart(self, store: &[u8], out: &mut [u8]) -> SiteDeparted
+        requires { ⌜ SoundSite self ⌝ }
+        ensures { λ r. ⌜ DepartGives self (now (store .entry)) (now (out .entry)) (now (out .exit)) r ⌝ }
+    {
+        if store.len() != STORE_LENGTH {
+            return SiteDeparted {
+                site: self,
+                reply: Reply::Refused(STORE_WRONG),
+            };
+        }
+        if out.len() < SIZE_LIMIT {
+            return SiteDeparted {
+                site: self,
+                reply: Reply::Refused(OUT_SHORT),
+            };
+        }
+        let order = self.order;
+        let sent = order.depart();
+        let state = sent.state;
+        let reply = sent.reply;
+        if let Reply::Departure(d) = reply {
+            let f = d.flow as usize;
+            slots::read(store, f, slots::first(order.flows[f]), d.size as usize, out);
+        }
+        SiteDeparted {
+            site: Site { order: state },
+            reply: reply,
+        }
+    }
+}
