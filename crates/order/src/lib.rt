@@ -3,6 +3,7 @@ ghost use Rattle.order.specs.Encoding.{Sound};
 ghost use Rattle.order.specs.Promised.{GivesNew, OpenGives, OfferGives, DepartGives, BurstGives};
 use err::Answer;
 use err::Count;
+use err::FLOW_LIMIT;
 use err::LIST_SHORT;
 use err::Reply;
 use err::Serving;
@@ -24,7 +25,7 @@ pub struct FlowCell {
 
 // The round: the flow numbers of the line lie in the first cells.
 pub struct RoundCell {
-    pub line: [u8; 32],
+    pub line: [u8; FLOW_LIMIT],
     pub length: u8,
     pub visits: u8,
     pub mark: u16,
@@ -34,19 +35,19 @@ pub struct RoundCell {
 
 // The scheduler's state.
 pub struct State {
-    pub flows: [FlowCell; 32],
+    pub flows: [FlowCell; FLOW_LIMIT],
     pub round: RoundCell,
 }
 
 // What a departure call makes of the round and of the flow whose turn it is, with its reply.
-pub struct Visited {
+struct Visited {
     pub round: RoundCell,
     pub flow: FlowCell,
     pub reply: Reply,
 }
 
 // What open and offer make of the round and of the flow that they concern, with their answer.
-pub struct Asked {
+struct Asked {
     pub round: RoundCell,
     pub flow: FlowCell,
     pub answer: Answer,
@@ -80,7 +81,7 @@ impl State {
             sizes: 0,
         };
         let round = RoundCell {
-            line: [0u8; 32],
+            line: [0u8; FLOW_LIMIT],
             length: 0,
             visits: 0,
             mark: 0,
@@ -88,7 +89,7 @@ impl State {
             turn: Serving::NoTurn,
         };
         State {
-            flows: [closed; 32],
+            flows: [closed; FLOW_LIMIT],
             round: round,
         }
     }
