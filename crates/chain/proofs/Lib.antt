@@ -1,0 +1,2 @@
+-- Prefix: how long the first bytes of a buffer are.
+mod Prefix

@@ -1,0 +1,60 @@
+-- The first bytes of the packet, and of the store, are lent.
+use mathlib.Core.Path.{refl}
+use lib.Dec.{lit<}
+use lib.Seq.{length-front}
+use Rattle.chain.proofs.Prefix.{as-many, within}
+use Rattle.chain.proofs.calls.offer.Statement.{statement}
+use Rattle.chain.proofs.calls.offer.Tie as tie
+
+offer-drawn-requires : tie.Need-offer-drawn-requires
+offer-drawn-requires c κs = c .before .pre .1 .0
+
+slice-aggregate-rising : tie.Need-slice-aggregate-rising
+slice-aggregate-rising c = refl
+
+rising-requires : tie.Need-rising-requires
+rising-requires c κs = (c .before .offer-drawn .ensures .1, c .before .offer-drawn .ensures .2, lit< tt)
+
+array-share-prefix-packet : tie.Need-array-share-prefix-packet
+array-share-prefix-packet c = within (c .before .before .before .offer-drawn .result .size) 258 (c .before .rising .last .0) (c .before .before .before .offer-drawn .ensures .0) (c .before .rising .kept .0)
+
+slice-aggregate-offer : tie.Need-slice-aggregate-offer
+slice-aggregate-offer c =
+    as-many (c .before .before .before .before .offer-drawn .result .size) (c .before .before .rising .last .0)
+    (within (c .before .before .before .before .offer-drawn .result .size) 258 (c .before .before .rising .last .0) (c .before .before .before .before .offer-drawn .ensures .0) (c .before .before .rising .kept .0))
+
+slice-relend-prefix-offer : tie.Need-slice-relend-prefix-offer
+slice-relend-prefix-offer c = within (c .before .before .before .before .offer-drawn .result .lent) 65536 (c .before .before .before .before .before .before .args .store .now) (c .before .before .before .before .offer-drawn .ensures .3) (c .before .before .before .before .before .before .pre .1 .1)
+
+slice-aggregate-offer-2 : tie.Need-slice-aggregate-offer-2
+slice-aggregate-offer-2 c =
+    as-many (c .before .before .before .before .before .offer-drawn .result .lent) (c .before .before .before .before .before .before .before .args .store .now)
+    (within (c .before .before .before .before .before .offer-drawn .result .lent) 65536 (c .before .before .before .before .before .before .before .args .store .now) (c .before .before .before .before .before .offer-drawn .ensures .3) (c .before .before .before .before .before .before .before .pre .1 .1))
+
+offer-requires : tie.Need-offer-requires
+offer-requires c κs = c .before .before .before .before .before .before .before .pre .0
+
+answered-requires : tie.Need-answered-requires
+answered-requires c κs = tt
+
+same-length : tie.Need-same-length
+same-length c = length-front (c .before .before .before .before .before .before .before .before .before .before .before .before .args .store .now) (c .before .before .before .before .offer .last .1 .1 .1 .0) (c .before .before .before .before .before .before .before .before .before .before .offer-drawn .result .lent) (c .before .before .before .before .offer .kept .1 .1 .1 .0)
+
+returns : tie.Need-returns
+returns c = c .before .before .before .before .offer .ensures .sound
+
+pub offer-spec : {M : Type 1} → statement M
+offer-spec =
+    tie.close
+    (tie.spec
+    offer-drawn-requires
+    slice-aggregate-rising
+    rising-requires
+    array-share-prefix-packet
+    slice-aggregate-offer
+    slice-relend-prefix-offer
+    slice-aggregate-offer-2
+    offer-requires
+    answered-requires
+    same-length
+    returns)

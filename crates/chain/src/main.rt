@@ -1,0 +1,65 @@
+// Random store calls on one site and one store, as reference/CHAIN.md defines them, and the bench row on the store's length. What it prints is held
+// to what the independent program prints.
+ghost use mathlib.Core.Path.{_≡_};
+ghost use lib.ListN.{length};
+ghost use Rattle.store.specs.Slots.{storeLength};
+use draws::Phase;
+use store::Site;
+
+mod calls;
+mod draws;
+mod fills;
+mod lines;
+mod sums;
+
+const SEED: u32 = 1;
+
+const CALLS_TO_A_LINE: u64 = 1000;
+
+// As many as fill whole lines.
+const CALLS: u64 = 20000;
+
+// After every 1,000 calls the store's bytes are folded too, and a line is printed.
+fn reported(n: u64, check: u32, store: &[u8], counts: &[u64; 13]) -> u32 {
+    if n % CALLS_TO_A_LINE == 0 {
+        let sum = sums::folded(check, store);
+        lines::line(n, sum, counts[sums::DEPARTED]);
+        sum
+    } else {
+        check
+    }
+}
+
+fn run(store: &mut [u8], out: &mut [u8])
+    requires { ⌜ length (now store) ≡ storeLength ⌝ }
+    requires { ⌜ length (now out) ≡ 300 ⌝ }
+{
+    let mut counts = [0u64; 13];
+    let mut site = Site::new();
+    let mut phase = Phase {
+        x: SEED,
+        width: 1,
+        load: 512,
+    };
+    let mut check: u32 = 2166136261;
+    let mut n: u64 = 0;
+    while n < CALLS {
+        phase = draws::phase_at(n, phase);
+        let step = calls::call(site, phase, check, store, out);
+        site = step.site;
+        phase.x = step.x;
+        sums::count(&mut counts, step.which);
+        n += 1;
+        check = reported(n, step.check, store, &counts);
+    }
+    lines::counts(&counts);
+}
+
+fn main() {
+    let mut store = io::large_buffer();
+    let mut out = [0u8; 300];
+    fills::rows(&mut store);
+    fills::rising(&mut out, 0, 3);
+    run(&mut store, &mut out);
+    calls::row(&store, &mut out);
+}

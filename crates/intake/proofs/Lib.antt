@@ -1,0 +1,2 @@
+-- For a caller that lends on what was read.
+pub mod Lent

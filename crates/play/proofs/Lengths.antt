@@ -1,0 +1,300 @@
+-- No transcript is longer than three times the longest input and a line. Every line that is printed is paid for by bytes of the input, three for one:
+-- a departure's line by the line on which its packet arrived.
+--     transcript-fits   a buffer of four times the longest input holds every transcript
+--     count-within      what `play` counts is within the buffer
+-- Assumes nothing.
+use Prim.Native.Nat.{ℕ, zero, suc, _+_, _*_, _-_, _^_, _<_, _≤_}
+use native.Mathlib.Decide.{decLt}
+use native.Mathlib.Nat.{le-trans}
+use native.Mathlib.Omega.{arith}
+use mathlib.Core.Bool.{Bool, true, false, cond, _||_}
+use mathlib.Core.List.{List, [], _∷_, _++_}
+use mathlib.Core.Path.{_≡_, refl, sym, ap, _∙_, subst}
+use lib.ListN.{length, length-append}
+use lib.Dec.{leb, ltb, eqb}
+use Rattle.err.specs.Limits.{flowLimit, weightLimit, sizeLimit, queueLimit}
+use Rattle.err.specs.Model.{Flow, Scheduler, flowAt, newScheduler}
+use Rattle.err.specs.Calls.{Outcome, Departures, answerOf, unlessRefused, openRefusal, offerRefusal, opened, offered, departed, andThen, departures}
+use Rattle.err.specs.Rules.{Rules}
+use Rattle.err.specs.declared.Reply.{Reply}
+use Rattle.err.specs.declared.Reply.the-variants.{Departure, Idle, Refused as ReplyRefused}
+use Rattle.err.specs.declared.Sent.{Sent}
+use Rattle.err.proofs.Keeps.{new-keeps, opened-keeps, offered-keeps, departed-keeps, departures-keep}
+use Rattle.lines.specs.Text.{bytes}
+use Rattle.lines.specs.Line.{lineAt}
+use Rattle.lines.specs.Written.{decimal, field, eventText, written}
+use Rattle.lines.specs.declared.Event.{Event}
+use Rattle.lines.specs.declared.Event.the-variants.{Flow as FlowLine, Arrive, Send}
+use Rattle.lines.specs.declared.Line.{Line}
+use Rattle.lines.specs.declared.Line.the-variants.{Read, Bad}
+use Rattle.lines.proofs.Decimal.{decimal-length, decimal-begins}
+use Rattle.lines.proofs.Lines.{nothing-else-is-read, moves-on}
+use Rattle.print.specs.Page.{Printed}
+use Rattle.play.specs.Script.{Script, ended, spoiled, _then_, scriptFrom, scriptOf}
+use Rattle.play.specs.Story.{Report, bad, refused, sent, idle, Replay, Happening, newReplay, refusal, answered, numbered, departing, sending, happening, story}
+use Rattle.play.specs.Transcript.{inputLimit, outputLimit, replyText, lineOf, textOf, transcript}
+use Rattle.play.proofs.PlayLaws.{too-long, short-enough}
+use Rattle.play.proofs.ScriptLaws.{ends, reads, spoils}
+use Rattle.play.proofs.StoryLaws.{text-append, text-of-one}
+use Rattle.play.proofs.Waiting.{waiting, nothing-waits, opening-waits, offering-waits, departed-waiting, Leaves, leaves}
+
+-- ---- the lengths of printed lines
+
+-- numbers of at most five digits
+abbrev Few : ℕ → Type 0
+Few n = n < 10 ^ 5
+
+field-length : (word : List ℕ) (n k : ℕ) → n < 10 ^ suc k → length (word ++ decimal n) ≤ length word + suc k
+field-length word n k h = omega (arith, length-append word (decimal n), decimal-length n k h)
+
+bad-length : (line : ℕ) → Few line → length (lineOf (bad line)) ≤ 10
+unfolding lineOf
+bad-length line h = omega (arith, length-append (field "bad=" line) (bytes "\n"), field-length (bytes "bad=") line 4 h)
+
+idle-length : (n : ℕ) → Few n → length (lineOf (idle n)) ≤ 11
+unfolding lineOf
+idle-length n h = omega (arith, length-append (field "idle=" n) (bytes "\n"), field-length (bytes "idle=") n 4 h)
+
+refused-length : (k line : ℕ) → k < 10 → Few line → length (lineOf (refused k line)) ≤ 21
+unfolding lineOf
+refused-length k line l h =
+    omega (
+      arith,
+      length-append (field "refused=" k ++ field " line=" line) (bytes "\n"),
+      length-append (field "refused=" k) (field " line=" line),
+      field-length (bytes "refused=") k 0 l,
+      field-length (bytes " line=") line 4 h,
+    )
+
+sent-length : (n : ℕ) (s : Scheduler) (d : Sent) → Few n → Leaves s d → length (lineOf (sent n d)) ≤ 48
+unfolding lineOf replyText
+sent-length n s d h L =
+    let flow = field " flow=" (d .flow) in
+    let size = flow ++ field " size=" (d .size) in
+    let mark = size ++ field " mark=" (d .mark) in
+    omega (
+      arith,
+      length-append (field "sent=" n ++ replyText d) (bytes "\n"),
+      length-append (field "sent=" n) (replyText d),
+      length-append mark (field " allow=" (d .allowance)),
+      length-append size (field " mark=" (d .mark)),
+      length-append flow (field " size=" (d .size)),
+      field-length (bytes "sent=") n 4 h,
+      field-length (bytes " flow=") (d .flow) 1 (omega (arith, L .flow-in-range)),
+      field-length (bytes " size=") (d .size) 2 (omega (arith, L .size-in-range)),
+      field-length (bytes " mark=") (d .mark) 2 (omega (arith, L .mark-in-range)),
+      field-length (bytes " allow=") (d .allowance) 3 (omega (arith, L .allowance-in-range)),
+    )
+
+-- ---- the lengths of the lines that are read
+
+some-digit : (n : ℕ) → 1 ≤ length (decimal n)
+some-digit n = let b = decimal-begins n in omega (arith, ap length (b .2))
+
+pair-length : (a b : List ℕ) (m n : ℕ) → length a + length b + 3 ≤ length ((a ++ decimal m) ++ (b ++ decimal n) ++ bytes "\n")
+pair-length a b m n =
+    omega (
+      arith,
+      length-append ((a ++ decimal m) ++ (b ++ decimal n)) (bytes "\n"),
+      length-append (a ++ decimal m) (b ++ decimal n),
+      length-append a (decimal m),
+      length-append b (decimal n),
+      some-digit m,
+      some-digit n,
+    )
+
+-- what an event costs at least
+cost : Event → ℕ
+cost (FlowLine flow weight) = 16
+cost (Arrive flow size) = 16
+cost (Send count) = 7
+
+written-length : (event : Event) → cost event ≤ length (written event)
+unfolding written eventText cost
+written-length (FlowLine flow weight) = pair-length (bytes "flow=") (bytes " weight=") flow weight
+written-length (Arrive flow size) = pair-length (bytes "arrive=") (bytes " size=") flow size
+written-length (Send count) = omega (arith, length-append (bytes "send=" ++ decimal count) (bytes "\n"), length-append (bytes "send=") (decimal count), some-digit count)
+
+-- ---- one event
+
+-- What an event prints is paid for: 48 bytes for each packet that no longer waits, and three for each byte of its line. The departures and the
+-- packets that wait are together no more than the lines on which packets can have arrived.
+record Pays (r : Replay) (x : Happening) (line-bytes : ℕ) : Type 0 where
+  pub printed : length (textOf (x .reports)) + 48 * waiting (x .after .scheduler) ≤ 48 * waiting (r .scheduler) + 3 * line-bytes
+  pub counted : 16 * (x .after .departed + waiting (x .after .scheduler)) ≤ 16 * (r .departed + waiting (r .scheduler)) + line-bytes
+  pub keeps : Rules (x .after .scheduler)
+
+either : (t : Bool) (a b : ℕ) → a < 10 → b < 10 → cond t a b < 10
+either true a b h k = h
+either false a b h k = k
+
+unless-pays : (r : Replay) (line n : ℕ) (t : Scheduler) → n < 10 → Few line → waiting t ≤ waiting (r .scheduler) + 1 → Rules (unlessRefused n (r .scheduler) t .state)
+    → Pays r (answered r line (unlessRefused n (r .scheduler) t)) 16
+unfolding answered unlessRefused textOf
+unless-pays r line zero t small f w R = record { printed = omega arith; counted = omega arith; keeps = R }
+unless-pays r line (suc n) t small f w R =
+    record {
+      printed = omega (arith, ap length (text-of-one (refused (suc n) line)), refused-length (suc n) line small f);
+      counted = omega arith;
+      keeps = R;
+    }
+
+open-pays : (r : Replay) (line flow weight : ℕ) → Rules (r .scheduler) → Few line → Pays r (answered r line (opened (r .scheduler) flow weight)) 16
+unfolding opened
+open-pays r line flow weight R f =
+    unless-pays r line (openRefusal flow weight x) _
+    (either (leb flowLimit flow) 1 _ (omega arith) (either (eqb weight 0 || ltb weightLimit weight) 2 _ (omega arith) (either (eqb (x .weight) 0) 0 3 (omega arith) (omega arith))))
+    f
+    (opening-waits (r .scheduler) flow weight)
+    (opened-keeps (r .scheduler) flow weight R)
+  where
+    x : Flow
+    x = flowAt (r .scheduler) flow
+
+offer-pays : (r : Replay) (line flow size : ℕ) → Rules (r .scheduler) → Few line → Pays r (answered r line (offered (r .scheduler) flow size)) 16
+unfolding offered
+offer-pays r line flow size R f =
+    unless-pays r line (offerRefusal flow size x) _
+    (either (leb flowLimit flow) 1 _ (omega arith)
+    (either (eqb (x .weight) 0) 4 _ (omega arith)
+    (either (eqb size 0 || ltb sizeLimit size) 5 _ (omega arith) (either (leb queueLimit (length (x .queue))) 6 0 (omega arith) (omega arith)))))
+    f
+    (offering-waits (r .scheduler) flow size)
+    (offered-keeps (r .scheduler) flow size R)
+  where
+    x : Flow
+    x = flowAt (r .scheduler) flow
+
+-- Departures are each paid for by the packet that left: n were made before them, and `d` is what they give.
+record Departs (n : ℕ) (s : Scheduler) (d : Departures) : Type 0 where
+  pub printed : length (textOf (numbered n (d .sent))) + 48 * waiting (d .state) ≤ 48 * waiting s
+  pub counted : length (d .sent) + waiting (d .state) ≤ waiting s
+
+departs : (count n : ℕ) (s : Scheduler) → Rules s → Few (n + waiting s) → Departs n s (departures count s)
+unfolding departures andThen numbered textOf
+departs zero n s R f = record { printed = omega arith; counted = omega arith }
+departs (suc count) n s R f =
+    by-reply (departed s .reply) refl (λ less. departs count (n + 1) (departed s .state) (departed-keeps s R) (omega arith))
+  where
+    after : Scheduler
+    after = departed s .state
+
+    by-reply : (r : Reply) → departed s .reply ≡ r → (waiting after < waiting s → Departs (n + 1) after (departures count after)) → Departs n s (andThen r after (departures count after))
+    by-reply (Departure d) e more =
+        let L = leaves s R d e in
+        let rest = more (L .one-less) in
+        record {
+          printed =
+              omega (
+                arith,
+                length-append (lineOf (sent (n + 1) d)) (textOf (numbered (n + 1) (departures count after .sent))),
+                sent-length (n + 1) s d (omega (arith, L .one-less)) L,
+                rest .printed,
+                L .one-less,
+              );
+          counted = omega (arith, rest .counted, L .one-less);
+        }
+    by-reply Idle e more = record { printed = omega (arith, departed-waiting s); counted = omega (arith, departed-waiting s) }
+    by-reply (ReplyRefused k) e more = record { printed = omega (arith, departed-waiting s); counted = omega (arith, departed-waiting s) }
+
+send-pays : (r : Replay) (count : ℕ) → Rules (r .scheduler) → Few (r .departed + waiting (r .scheduler)) → Pays r (sending r count) 7
+unfolding sending departing textOf
+send-pays r count R f =
+    record {
+      printed =
+          omega (
+            arith,
+            ap length (text-append (numbered (r .departed) (d .sent)) (ending met)),
+            length-append (textOf (numbered (r .departed) (d .sent))) (textOf (ending met)),
+            D .printed,
+            ending-length met,
+          );
+      counted = omega (arith, D .counted);
+      keeps = departures-keep count (r .scheduler) R;
+    }
+  where
+    d : Departures
+    d = departures count (r .scheduler)
+
+    D : Departs (r .departed) (r .scheduler) d
+    D = departs count (r .departed) (r .scheduler) R f
+
+    met : Bool
+    met = ltb (length (d .sent)) count
+
+    ending : Bool → List Report
+    ending t = cond t (idle (r .departed + length (d .sent)) ∷ []) []
+
+    ending-length : (t : Bool) → length (textOf (ending t)) ≤ 11
+    ending-length true =
+        omega (arith, ap length (text-of-one (idle (r .departed + length (d .sent)))), idle-length (r .departed + length (d .sent)) (omega (arith, D .counted)))
+    ending-length false = omega arith
+
+event-pays : (r : Replay) (line : ℕ) (event : Event) → Rules (r .scheduler) → Few line → Few (r .departed + waiting (r .scheduler)) → Pays r (happening r line event) (cost event)
+unfolding happening cost
+event-pays r line (FlowLine flow weight) R l f = open-pays r line flow weight R l
+event-pays r line (Arrive flow size) R l f = offer-pays r line flow size R l
+event-pays r line (Send count) R l f = send-pays r count R f
+
+-- ---- the whole replay
+
+-- what is printed from a place on
+abbrev Bounded : ℕ → List ℕ → ℕ → ℕ → Replay → Type 0
+Bounded most input at line r = length (textOf (story r line (scriptFrom most input at))) ≤ 48 * waiting (r .scheduler) + 3 * (length input - at) + 10
+
+story-length : (most : ℕ) (input : List ℕ) (at line : ℕ) (r : Replay) → length input ≤ inputLimit → at ≤ length input → line ≤ at + 1 → Rules (r .scheduler)
+    → 16 * (r .departed + waiting (r .scheduler)) ≤ at
+    → Bounded most input at line r
+unfolding scriptFrom story textOf
+story-length zero input at line r short place l R c = omega arith
+story-length (suc most) input at line r short place l R c =
+    by-place (decLt at (length input)) (λ event next further within P j. story-length most input next (line + 1) (happening r line event .after) short within (omega arith) (P .keeps) j)
+  where
+    Again : Type 0
+    Again = (event : Event) (next : ℕ) → at < next → next ≤ length input → Pays r (happening r line event) (cost event)
+        → 16 * (happening r line event .after .departed + waiting (happening r line event .after .scheduler)) ≤ next
+        → Bounded most input next (line + 1) (happening r line event .after)
+
+    by-line : at < length input → Again → (m : Line) → lineAt input at ≡ m → Bounded (suc most) input at line r
+    by-line within again (Read event next) e =
+        let on = moves-on input at e in
+        let read = nothing-else-is-read input at e .1 .ends in
+        let P = event-pays r line event R (omega arith) (omega arith) in
+        let x = happening r line event in
+        let rest = story (x .after) (line + 1) (scriptFrom most input next) in
+        omega (
+          arith,
+          ap (λ (s : Script). length (textOf (story r line s))) (reads input most at within e),
+          ap length (text-append (x .reports) rest),
+          length-append (textOf (x .reports)) (textOf rest),
+          P .printed,
+          read,
+          written-length event,
+          on .1,
+          again event next (on .0) (on .1) P (omega (arith, P .counted, read, written-length event)),
+        )
+    by-line within again Bad e =
+        omega
+        (arith, ap (λ (s : Script). length (textOf (story r line s))) (spoils input most at within e), ap length (text-of-one (bad line)), bad-length line (omega arith))
+
+    by-place : Dec (at < length input) → Again → Bounded (suc most) input at line r
+    by-place (yes within) again = by-line within again (lineAt input at) refl
+    by-place (no past) again = omega (arith, ap (λ (s : Script). length (textOf (story r line s))) (ends input (suc most) at (omega arith)))
+
+transcript-length : (input : List ℕ) → length (transcript input) ≤ 3 * inputLimit + 10
+unfolding newReplay newScheduler scriptOf
+transcript-length input =
+    elim (decLt inputLimit (length input)) [
+      | yes long ↦ omega (arith, ap length (too-long input long), bad-length 0 (omega arith))
+      | no short ↦
+          omega
+          (arith, ap length (short-enough input (omega arith)), story-length (length input) input 0 1 newReplay (omega arith) (omega arith) (omega arith) new-keeps (omega (arith, nothing-waits)), nothing-waits)
+    ]
+
+-- A buffer of this length holds every transcript.
+pub transcript-fits : (input : List ℕ) → length (transcript input) ≤ outputLimit
+transcript-fits input = omega (arith, transcript-length input)
+
+-- What `play` counts is within the buffer, so that a caller may lend it on.
+pub count-within : {text before after : List ℕ} {count : ℕ} → Printed text before after count → length after ≡ length before → count ≤ length after
+count-within p e = omega (arith, p .counted)

@@ -1,0 +1,132 @@
+// The replay of an input: each line's event is given to the scheduler, and what is told of it is printed into a buffer.
+ghost use mathlib.Core.Path.{_≡_};
+ghost use Prim.Native.Nat.{_+_, _≤_, _<_, _^_};
+ghost use lib.ListN.{length};
+ghost use Rattle.order.specs.Encoding.{Sound};
+ghost use Rattle.play.specs.Course.{replayOf, asked, Goes};
+ghost use Rattle.print.specs.Page.{page, put, Printed};
+ghost use Rattle.play.specs.Story.{refusal, sending, happening};
+ghost use Rattle.play.specs.Transcript.{inputLimit, textOf, transcript};
+use err::Answer;
+use err::Reply;
+use lines::Event;
+use lines::Line;
+use order::State;
+
+mod report;
+
+// An input has at most 65,536 bytes.
+pub const INPUT_LIMIT: usize = 65_536;
+// A buffer of so many bytes holds the transcript of any input, as the theorem `transcript-fits` says.
+pub const OUTPUT_LIMIT: usize = 4 * INPUT_LIMIT;
+
+// How far a replay has come: the scheduler, the departures so far, and the place up to which the buffer is written.
+struct Course {
+    state: State,
+    sent: usize,
+    past: usize,
+}
+
+// The replay of an input, printed into a buffer from its start; answers with the number of bytes.
+pub fn play(input: &[u8], out: &mut [u8]) -> usize
+    ensures { λ r. ⌜ Printed (transcript (now (input .entry))) (now (out .entry)) (now (out .exit)) r ⌝ }
+{
+    if INPUT_LIMIT < input.len() {
+        return report::bad_line(out, 0, 0);
+    }
+    replay(input, out)
+}
+
+// The replay of an input that is not too long, line by line.
+fn replay(input: &[u8], out: &mut [u8]) -> usize
+    requires { ⌜ length (now input) ≤ inputLimit ⌝ }
+    ensures { λ past. ⌜ page (now (out .exit)) past ≡ put (page (now (out .entry)) 0) (transcript (now (input .entry))) ⌝ }
+{
+    let state = State::new();
+    let mut course = Course {
+        state,
+        sent: 0,
+        past: 0,
+    };
+    let mut at = 0;
+    let mut line = 1;
+    while at < input.len() {
+        let Line::Read(event, next) = reader::read(input, at) else {
+            return report::bad_line(out, course.past, line);
+        };
+        course = run(out, course, event, line);
+        at = next;
+        line += 1;
+    }
+    course.past
+}
+
+// One event, on the line with this number.
+fn run(out: &mut [u8], c: Course, event: Event, line: usize) -> Course
+    requires { ⌜ Sound (c .state) ⌝ }
+    requires { ⌜ c .sent + asked event < 2 ^ 64 ⌝ }
+    ensures { λ r. ⌜ Goes c (now (out .entry)) (happening (replayOf c) line event) r (now (out .exit)) ⌝ }
+{
+    match event {
+        Event::Flow(flow, weight) => {
+            let state = c.state;
+            let answered = state.open(flow, weight);
+            let answer = answered.answer;
+            let past = told(out, c.past, answer, line);
+            let after = answered.state;
+            Course {
+                state: after,
+                sent: c.sent,
+                past,
+            }
+        }
+        Event::Arrive(flow, size) => {
+            let state = c.state;
+            let answered = state.offer(flow, size);
+            let answer = answered.answer;
+            let past = told(out, c.past, answer, line);
+            let after = answered.state;
+            Course {
+                state: after,
+                sent: c.sent,
+                past,
+            }
+        }
+        Event::Send(count) => send(out, c, count),
+    }
+}
+
+// The answer to an event: only a refusal is told.
+fn told(out: &mut [u8], at: usize, answer: Answer, line: usize) -> usize
+    ensures { λ past. ⌜ page (now (out .exit)) past ≡ put (page (now (out .entry)) at) (textOf (refusal answer line)) ⌝ }
+{
+    match answer {
+        Answer::Done => at,
+        Answer::Refused(refusal) => report::refused_line(out, at, refusal as usize, line),
+    }
+}
+
+// Up to so many departures, ending at the first idle.
+fn send(out: &mut [u8], c: Course, count: usize) -> Course
+    requires { ⌜ Sound (c .state) ⌝ }
+    requires { ⌜ c .sent + count < 2 ^ 64 ⌝ }
+    ensures { λ r. ⌜ Goes c (now (out .entry)) (sending (replayOf c) count) r (now (out .exit)) ⌝ }
+{
+    let mut state = c.state;
+    let mut sent = c.sent;
+    let mut past = c.past;
+    let mut left = count;
+    while 0 < left {
+        let departed = state.depart();
+        state = departed.state;
+        let reply = departed.reply;
+        let Reply::Departure(packet) = reply else {
+            past = report::idle_line(out, past, sent);
+            return Course { state, sent, past };
+        };
+        sent += 1;
+        past = report::sent_line(out, past, sent, packet);
+        left -= 1;
+    }
+    Course { state, sent, past }
+}

@@ -1,0 +1,23 @@
+-- `print::byte` meets its contract: it stores where there is room. Assumes nothing.
+use borrow.Author.Needs.{needs}
+use Rattle.print.proofs.PageLaws.{byte-fits, byte-left-off}
+use Rattle.print.proofs.byte.Statement.{statement}
+use Rattle.print.proofs.byte.Tie as tie
+
+slice-write-out : tie.Need-slice-write-out
+slice-write-out c = search needs
+
+add-result : tie.Need-add-result
+add-result c = search needs
+
+same-length : tie.Need-same-length
+same-length c = search needs
+
+returns : tie.Need-returns
+returns c = byte-fits _ _ _ (c .if1 .taken)
+
+returns-2 : tie.Need-returns-2
+returns-2 c = byte-left-off _ _ _ (c .if1 .left)
+
+pub byte-spec : {M : Type 1} → statement M
+byte-spec = tie.close (tie.spec slice-write-out add-result same-length returns returns-2)
