@@ -6,6 +6,8 @@ pub mod Unchanged
 pub mod Kept
 pub mod Blind
 pub mod Followed
+-- OnSizes: a chain of store calls is a chain of the order layer's on the scheduler, so what is proved of those holds of it.
+pub mod OnSizes
 -- What these and the function files rest on: Copying (the loop that copies), SlotLaws (where bytes lie), Departing (which packet leaves), CallLaws (the
 -- store calls case by case), SiteLaws (from the order layer's calls to a site's), Lending (how much of the store is lent), WaitingLaws and Balances
 -- (the bytes that wait, call by call).

@@ -3,14 +3,16 @@ use Prim.Native.Nat.{ℕ, _-_}
 use mathlib.Core.List.{List, [], _∷_, _++_, map}
 use mathlib.Core.Bool.{cond}
 use lib.ListN.{length, take, drop, replicate}
-use lib.Dec.{eqb}
+use lib.Dec.{eqb, ltb}
 use Rattle.err.specs.Choose.{ifZero}
 use Rattle.err.specs.Model.{Scheduler, flowAt, newScheduler}
 use Rattle.err.specs.Steps.{nextSlot}
 use Rattle.err.specs.Calls.{opened}
 use Rattle.err.specs.Replies.{Said, told, ofAnswer, ofReply, sentBy}
 use Rattle.err.specs.declared.Sent.{Sent}
-use Rattle.store.specs.Slots.{held}
+use Rattle.err.specs.Chain.{Call}
+use Rattle.err.specs.Chain as SizeCall
+use Rattle.store.specs.Slots.{held, storeLength, outLimit}
 use Rattle.store.specs.Calls.{AfterDeparture, storeOfferRefusal, storeOffer, storeDepart}
 
 -- A call with what is passed to it: a flow and a weight; a flow, a packet and how many bytes of the store are lent; how many bytes of the store are
@@ -127,3 +129,14 @@ heldFrom store f k (n ∷ q) = held store f k n ∷ heldFrom store f (nextSlot k
 -- The bytes of flow f's waiting packets, in queue order.
 unfoldable pub waitingBytes : Scheduler → List ℕ → ℕ → List (List ℕ)
 waitingBytes s store f = heldFrom store f (flowAt s f .slot) (flowAt s f .queue)
+
+-- The order layer's call that a store call makes on the scheduler; none where it is refused for what is lent.
+unfoldable pub onSizes : StoreCall → List Call
+onSizes resetting = SizeCall.resetting ∷ []
+onSizes (opening f weight) = SizeCall.opening f weight ∷ []
+onSizes (offering f packet n) = cond (eqb n storeLength) (SizeCall.offering f (length packet) ∷ []) []
+onSizes (departing n out) = cond (eqb n storeLength) (cond (ltb (length out) outLimit) [] (SizeCall.departing ∷ [])) []
+
+unfoldable pub allOnSizes : List StoreCall → List Call
+allOnSizes [] = []
+allOnSizes (c ∷ calls) = onSizes c ++ allOnSizes calls

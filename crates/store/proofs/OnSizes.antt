@@ -1,0 +1,70 @@
+-- On the scheduler a chain of store calls is a chain of the order layer's calls: what is proved of every such chain, demand 3 with it, holds of store
+-- calls too.
+use Prim.Native.Nat.{ℕ, zero, suc}
+use mathlib.Core.Path.{_≡_, refl, sym, ap, _∙_}
+use mathlib.Core.List.{List, [], _∷_, _++_}
+use mathlib.Core.Bool.{Bool, true, false, cond}
+use lib.ListN.{length}
+use lib.Dec.{eqb, ltb}
+use Rattle.err.specs.Choose.{ifZero}
+use Rattle.err.specs.Model.{Scheduler, flowAt, newScheduler}
+use Rattle.err.specs.Calls.{offered, departed, unlessRefused, offerRefusal}
+use Rattle.err.specs.Chain.{Call, after}
+use Rattle.err.specs.Chain as SizeCall
+use Rattle.store.specs.Slots.{storeLength, outLimit}
+use Rattle.store.specs.Calls.{storeOffer, storeDepart}
+use Rattle.store.specs.Chain.{StoreCall, resetting, opening, offering, departing, lent, stateAfter, History, start, next, chain, onSizes, allOnSizes}
+use Rattle.store.proofs.Lending.{lent-length}
+
+chain-joined : (k : SizeCall.History) (a b : List Call) → SizeCall.chain k (a ++ b) ≡ SizeCall.chain (SizeCall.chain k a) b
+unfolding SizeCall.chain
+chain-joined k [] b = refl
+chain-joined k (c ∷ a) b = chain-joined (SizeCall.next k c) a b
+
+-- Where the order layer refuses an offer its state is as before, so it does not matter that the store layer asks first.
+offer-asked-first : (s : Scheduler) (f size : ℕ) → ifZero (offerRefusal f size (flowAt s f)) (offered s f size .state) s ≡ offered s f size .state
+unfolding offered unlessRefused
+offer-asked-first s f size = by (offerRefusal f size (flowAt s f)) _
+  where
+    by : (n : ℕ) (t : Scheduler) → ifZero n (ifZero n t s) s ≡ ifZero n t s
+    by zero t = refl
+    by (suc n) t = refl
+
+-- One call.
+on-sizes-once : (c : StoreCall) (store : List ℕ) (k : SizeCall.History) → stateAfter (k .state) store c ≡ SizeCall.chain k (onSizes c) .state
+unfolding stateAfter onSizes SizeCall.chain SizeCall.next SizeCall.after storeOffer storeDepart
+on-sizes-once resetting store k = refl
+on-sizes-once (opening f weight) store k = refl
+on-sizes-once (offering f packet n) store k =
+    ap (λ (m : ℕ). ifZero (cond (eqb m storeLength) (offerRefusal f (length packet) (flowAt (k .state) f)) 8) (offered (k .state) f (length packet) .state) (k .state)) (lent-length n store)
+    ∙ by (eqb n storeLength)
+  where
+    by : (b : Bool) → ifZero (cond b (offerRefusal f (length packet) (flowAt (k .state) f)) 8) (offered (k .state) f (length packet) .state) (k .state)
+        ≡ SizeCall.chain k (cond b (SizeCall.offering f (length packet) ∷ []) []) .state
+    by true = offer-asked-first (k .state) f (length packet)
+    by false = refl
+on-sizes-once (departing n out) store k =
+    ap (λ (m : ℕ). ifZero (cond (eqb m storeLength) (cond (ltb (length out) outLimit) 7 0) 8) (departed (k .state) .state) (k .state)) (lent-length n store)
+    ∙ by (eqb n storeLength) (ltb (length out) outLimit)
+  where
+    by : (b c : Bool) → ifZero (cond b (cond c 7 0) 8) (departed (k .state) .state) (k .state)
+        ≡ SizeCall.chain k (cond b (cond c [] (SizeCall.departing ∷ [])) []) .state
+    by true true = refl
+    by true false = refl
+    by false true = refl
+    by false false = refl
+
+goes-on-sizes : (calls : List StoreCall) (h : History) (k : SizeCall.History) → h .state ≡ k .state
+    → chain h calls .state ≡ SizeCall.chain k (allOnSizes calls) .state
+unfolding chain next allOnSizes SizeCall.chain
+goes-on-sizes [] h k e = e
+goes-on-sizes (c ∷ calls) h k e =
+    goes-on-sizes calls (next h c) (SizeCall.chain k (onSizes c))
+    (ap (λ (s : Scheduler). stateAfter s (h .store) c) e ∙ on-sizes-once c (h .store) k)
+    ∙ ap (λ (g : SizeCall.History). g .state) (sym (chain-joined k (onSizes c) (allOnSizes calls)))
+
+-- After any store calls the scheduler is that of the order layer's chain of the same offers and departures.
+pub store-calls-are-calls-on-sizes : (store : List ℕ) (calls : List StoreCall)
+    → chain (start store) calls .state ≡ SizeCall.chain SizeCall.start (allOnSizes calls) .state
+unfolding start SizeCall.start
+store-calls-are-calls-on-sizes store calls = goes-on-sizes calls (start store) SizeCall.start refl
