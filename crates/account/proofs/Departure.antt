@@ -25,6 +25,7 @@ use Rattle.err.proofs.Counts.{count-head}
 use Rattle.err.proofs.Rounding.{raised-at-most}
 use Rattle.err.proofs.Line.{OnlyAt}
 use Rattle.err.proofs.Line.{round-starts as rules-when-a-round-starts}
+use Rattle.err.proofs.Keeps.{weighs}
 use Rattle.err.proofs.Flows.{at-put, at-others, put-back, waiting-in-reach, first-in-range}
 use Rattle.account.specs.Stretch.{turnThen, turnsOf}
 use Rattle.account.proofs.Circle.{Circle, circle, circleOf, round-starts, turn-opens, turn-stays-open, turn-ends, flow-runs-empty, Run, stands, moves, follows, Renewed, Waits, Backwards, departure}
@@ -70,10 +71,7 @@ waited-before s =
     go NoTurn [] r x w = w
     go NoTurn (f ∷ line) r x w = served-waited _ (surplusCleared x) f _ 0 w
 
--- A flow with a packet waiting weighs something, and so does one whose turn allows anything.
-pub weighs : (x : Flow) → FlowRules x → (x .queue ≡ [] → ⊥) → 1 ≤ x .weight
-weighs x X waits = elim (ℕ-discrete (x .weight) 0) [ yes e ↦ absurd (waits (X .open-if-waiting e)) | no d ↦ omega arith ]
-
+-- A flow whose turn allows anything weighs something.
 weighs-in-turn : (w mark allowed sent : ℕ) → sent < allowed → allowed ≤ w * (1 + mark) → 1 ≤ w
 weighs-in-turn zero mark allowed sent low most = absurd (omega arith)
 weighs-in-turn (suc w) mark allowed sent low most = omega arith

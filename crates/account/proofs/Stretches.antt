@@ -9,7 +9,7 @@ use Rattle.err.specs.Model.{Flow, Scheduler, flowAt, closedFlow, newScheduler}
 use Rattle.err.specs.Rules.{Rules}
 use Rattle.err.specs.Chain.{Call, resetting, opening, offering, departing, bursting, after, leaving, sinceReset, History, next, chain}
 use Rattle.err.specs.declared.Sent.{Sent}
-use Rattle.err.proofs.Keeps.{every-call-keeps}
+use Rattle.err.proofs.Keeps.{every-call-keeps, new-closed}
 use Rattle.account.specs.Stretch.{WaitingAfterEvery, WithoutReset, sentIn, turnsIn, largest}
 use Rattle.account.proofs.Circle.{circleOf, Run, stands, follows, Waits, Backwards}
 use Rattle.account.proofs.Runs.{call-runs}
@@ -17,19 +17,9 @@ use Rattle.account.proofs.Order.{Both}
 use Rattle.account.proofs.Within.{Within, within-more, run-stays-within}
 use Rattle.account.proofs.Sums.{largest-append}
 
--- Every flow of a new scheduler is closed.
-all-closed : (f : ℕ) → flowAt newScheduler f ≡ closedFlow
-unfolding newScheduler
-all-closed f = go flowLimit f
-  where
-    go : (n f : ℕ) → getD (replicate n closedFlow) f closedFlow ≡ closedFlow
-    go zero f = refl
-    go (suc n) zero = refl
-    go (suc n) (suc f) = go n f
-
 -- After a reset nobody waits, so a call after which a flow waits is none.
 nobody-waits : (f : ℕ) → Waits (flowAt newScheduler f) → ⊥
-nobody-waits f w = absurd (omega (arith, w, ap (λ (x : Flow). length (x .queue)) (all-closed f)))
+nobody-waits f w = absurd (omega (arith, w, ap (λ (x : Flow). length (x .queue)) (new-closed f)))
 
 no-reset : (s : Scheduler) (f : ℕ) (c : Call) → Waits (flowAt (after s c) f) → c ≡ resetting → ⊥
 unfolding after
@@ -90,7 +80,7 @@ Small h = Within (largest (h .left) - 1) (circleOf (h .state))
 
 pub new-is-small : Within 0 (circleOf newScheduler)
 unfolding newScheduler
-new-is-small = record { mark-within = omega arith; running-within = omega arith; surplus-within = λ f. omega (arith, ap (λ (x : Flow). x .surplus) (all-closed f)) }
+new-is-small = record { mark-within = omega arith; running-within = omega arith; surplus-within = λ f. omega (arith, ap (λ (x : Flow). x .surplus) (new-closed f)) }
 
 call-stays-small : (h : History) (c : Call) → Rules (h .state) → Small h → Small (next h c)
 unfolding next after leaving largest

@@ -12,7 +12,7 @@ use Rattle.err.specs.Rules.{Rules}
 use Rattle.err.specs.Chain.{Call, History, start, chain}
 use Rattle.err.specs.declared.Serving.{Serving}
 use Rattle.err.specs.declared.Serving.the-variants.{NoTurn, Turn}
-use Rattle.err.proofs.Keeps.{new-keeps}
+use Rattle.err.proofs.Keeps.{new-keeps, weighs}
 use Rattle.account.specs.Stretch.{Stretch, begun, ended, Waiting, WaitingAfterEvery, WaitingThroughout, ConsecutiveTurns, SomethingSent, bytesSent, bytes, sumOf, onePlusMark, onePlusMarks, sentIn, turnsIn, weightOf, surplusBefore, surplusAfter, largest, largestSinceReset, DifferByAtMost, DifferByLessThan}
 use Rattle.account.proofs.Circle.{circleOf, onAccount, held, Run}
 use Rattle.account.proofs.Sums.{largest-append, no-bytes}
@@ -21,7 +21,6 @@ use Rattle.account.proofs.Order.{Both, run-keeps-both}
 use Rattle.account.proofs.Within.{Within, within-more, run-stays-within, run-sends-bytes}
 use Rattle.account.proofs.Bound.{placed}
 use Rattle.account.proofs.Pair.{pair-bounded}
-use Rattle.account.proofs.Departure.{weighs}
 use Rattle.account.proofs.Stretches.{rules-reached, stretch-runs, left-grows, Small, small-reached, new-is-small}
 
 -- ---- from any state that keeps the rules, however it came about

@@ -14,10 +14,6 @@ use Rattle.order.specs.declared.FlowCell.{FlowCell}
 use Rattle.order.specs.declared.RoundCell.{RoundCell}
 use Rattle.order.proofs.Packed.{packed-seen}
 
-pub cells-length : (n : ℕ) (l : List ℕ) → length l ≤ n → length (cells n l) ≡ n
-unfolding cells
-cells-length n l h = omega (arith, length-append l (replicate (n - length l) 0), length-replicate {A = ℕ} (n - length l) 0)
-
 pub cells-seen : (n : ℕ) (l : List ℕ) → take (length l) (cells n l) ≡ l
 unfolding cells
 cells-seen n l = take-append-seam l (replicate (n - length l) 0)

@@ -16,7 +16,7 @@ use Rattle.err.specs.declared.Reply.the-variants.{Departure, Idle}
 use Rattle.err.specs.declared.Serving.{Serving}
 use Rattle.err.specs.declared.Serving.the-variants.{NoTurn, Turn}
 use Rattle.err.proofs.Flows.{left-flow-rules, cleared-flow-rules}
-use Rattle.order.specs.Encoding.{cells, encodeFlow, encodeRound, encodeVisit, viewRound, viewFlow}
+use Rattle.order.specs.Encoding.{encodeFlow, encodeRound, encodeVisit, viewRound, viewFlow}
 use Rattle.order.specs.Premises.{FlowReady, RoundReady, HasFirst, MayServe, MayBegin, MayVisit}
 use Rattle.order.specs.declared.FlowCell.{FlowCell}
 use Rattle.order.specs.declared.RoundCell.{RoundCell}
