@@ -1,5 +1,4 @@
 // The numbers drawn: a linear congruential generator, and what the chain draws by it.
-ghost use mathlib.Core.Path.{_≡_};
 ghost use Prim.Native.Nat.{_<_, _≤_};
 ghost use Rattle.store.specs.Slots.{storeLength};
 use store::STORE_LENGTH;

@@ -1,5 +1,5 @@
 -- Each call balances on bytes: for each flow, what waited and what the call accepts are what leaves and what waits then.
-use Prim.Native.Nat.{ℕ, zero, suc, _+_, _≤_, _<_}
+use Prim.Native.Nat.{ℕ, zero, suc, _≤_, _<_}
 use mathlib.Core.Path.{_≡_, refl, sym, ap, ap₂, _∙_, subst}
 use mathlib.Core.List.{List, [], _∷_, _++_, map, append-nil}
 use native.Mathlib.Omega.{arith}
@@ -12,7 +12,7 @@ use Rattle.err.specs.Model.{Flow, Scheduler, closedFlow, flowAt, newScheduler}
 use Rattle.err.specs.Steps.{packetJoined, flowLined}
 use Rattle.err.specs.Calls.{put, openFlow, opened, openRefusal, offered, offerRefusal, departed, unlessRefused}
 use Rattle.err.specs.Replies.{sentBy}
-use Rattle.err.specs.Rules.{FlowRules, Rules}
+use Rattle.err.specs.Rules.{Rules}
 use Rattle.err.specs.declared.Reply.{Reply}
 use Rattle.err.specs.declared.Reply.the-variants.{Departure, Idle, Refused}
 use Rattle.err.specs.declared.Sent.{Sent}
@@ -72,12 +72,15 @@ module _ (s : Scheduler) (R : Rules s) (store : List ℕ) (f weight : ℕ) where
   open-waits : MayOpen f weight (flowAt s f) → (g : ℕ) → waitingBytes (openedIn s f weight) store g ≡ waitingBytes s store g
   open-waits may g =
       elim (ℕ-discrete g f) [
-        | yes e ↦ subst (λ (h : ℕ). waitingBytes (openedIn s f weight) store h ≡ waitingBytes s store h) (sym e) (nobody (openedIn s f weight) store f opened-empty ∙ sym (nobody s store f (R .flow-rules f .open-if-waiting (may .not-open))))
+        | yes e ↦ subst (λ (h : ℕ). waitingBytes (openedIn s f weight) store h ≡ waitingBytes s store h) (sym e) here
         | no d ↦ same-flow (openedIn s f weight) s store g (at-others s f (openFlow weight) (s .round) g d)
       ]
     where
       opened-empty : flowAt (openedIn s f weight) f .queue ≡ []
       opened-empty = ap (λ (x : Flow). x .queue) (at-put s f (openFlow weight) (s .round) (omega (arith, R .all-flows, may .flow-in-range)))
+
+      here : waitingBytes (openedIn s f weight) store f ≡ waitingBytes s store f
+      here = nobody (openedIn s f weight) store f opened-empty ∙ sym (nobody s store f (R .flow-rules f .open-if-waiting (may .not-open)))
 
   pub open-balances : Balances s store [] [] (opened s f weight .state) store
   unfolding opened unlessRefused bytesOf
@@ -90,35 +93,59 @@ module _ (s : Scheduler) (R : Rules s) (store : List ℕ) (f weight : ℕ) where
 -- An accepted packet is written in the slot behind its flow's last, and joins its queue.
 module _ (s : Scheduler) (R : Rules s) (store : List ℕ) (whole : length store ≡ storeLength) (f : ℕ) (packet : List ℕ)
     (may : MayOffer f (length packet) (flowAt s f)) where
-  next-in-reach : nextSlotOf (flowAt s f) < queueLimit
+  abbrev slotTaken : ℕ
+  slotTaken = nextSlotOf (flowAt s f)
+
+  next-in-reach : slotTaken < queueLimit
   next-in-reach = omega arith
+
+  flow-joined : flowAt (joinedIn s f (length packet)) f ≡ packetJoined (flowAt s f) (length packet)
+  flow-joined =
+      at-put s f (packetJoined (flowAt s f) (length packet)) (flowLined (s .round) f (flowAt s f)) (omega (arith, R .all-flows, may .flow-in-range))
 
   join-own : waitingBytes (joinedIn s f (length packet)) (storedIn s store f packet) f ≡ waitingBytes s store f ++ (packet ∷ [])
   unfolding waitingBytes packetJoined
   join-own =
-      ap (λ (x : Flow). heldFrom (storedIn s store f packet) f (x .slot) (x .queue)) (at-put s f (packetJoined (flowAt s f) (length packet)) (flowLined (s .round) f (flowAt s f)) (omega (arith, R .all-flows, may .flow-in-range)))
-      ∙ waiting-with-one-more store packet whole (may .size-small) f (nextSlotOf (flowAt s f)) (may .flow-in-range) next-in-reach
+      ap (λ (x : Flow). heldFrom (storedIn s store f packet) f (x .slot) (x .queue)) flow-joined
+      ∙ waiting-with-one-more store packet whole (may .size-small) f slotTaken (may .flow-in-range) next-in-reach
       (flowAt s f .slot) (R .flow-rules f .slot-in-range) (R .flow-rules f .sizes-in-range) (may .has-room) refl
 
-  join-another : (g : ℕ) → (g ≡ f → ⊥) → waitingBytes (joinedIn s f (length packet)) (storedIn s store f packet) g ≡ waitingBytes s store g
+  -- The packets of another flow lie where they lay; a number that no flow has stands for a flow with none.
+  beyond : (g : ℕ) → flowLimit ≤ g → flowAt s g .queue ≡ []
+  beyond g h = ap (λ (x : Flow). x .queue) (List·getD-eq-default (s .flows) closedFlow {n = g} (omega (arith, R .all-flows)))
+
+  others-lie : (g : ℕ) → (g ≡ f → ⊥) → waitingBytes s (storedIn s store f packet) g ≡ waitingBytes s store g
   unfolding waitingBytes
-  join-another g d =
-      same-flow (joinedIn s f (length packet)) s (storedIn s store f packet) g (at-others s f (packetJoined (flowAt s f) (length packet)) (flowLined (s .round) f (flowAt s f)) g d)
-      ∙ elim (decLt g flowLimit) [
-        | yes b ↦ waiting-over-another-flow store packet whole (may .size-small) f (nextSlotOf (flowAt s f)) (may .flow-in-range) next-in-reach g b d (flowAt s g .slot) (R .flow-rules g .slot-in-range) (R .flow-rules g .sizes-in-range)
+  others-lie g d =
+      elim (decLt g flowLimit) [
+        | yes b ↦
+            waiting-over-another-flow store packet whole (may .size-small) f slotTaken (may .flow-in-range) next-in-reach g b d
+            (flowAt s g .slot) (R .flow-rules g .slot-in-range) (R .flow-rules g .sizes-in-range)
         | no b ↦ nobody s (storedIn s store f packet) g (beyond g (omega arith)) ∙ sym (nobody s store g (beyond g (omega arith)))
       ]
-    where
-      beyond : (g : ℕ) → flowLimit ≤ g → flowAt s g .queue ≡ []
-      beyond g h = ap (λ (x : Flow). x .queue) (List·getD-eq-default (s .flows) closedFlow {n = g} (omega (arith, R .all-flows)))
+
+  join-another : (g : ℕ) → (g ≡ f → ⊥) → waitingBytes (joinedIn s f (length packet)) (storedIn s store f packet) g ≡ waitingBytes s store g
+  join-another g d =
+      same-flow (joinedIn s f (length packet)) s (storedIn s store f packet) g
+      (at-others s f (packetJoined (flowAt s f) (length packet)) (flowLined (s .round) f (flowAt s f)) g d)
+      ∙ others-lie g d
+
+  join-waits : (g : ℕ) → waitingBytes s store g ++ bytesOf g (record { flow = f; bytes = packet } ∷ [])
+      ≡ waitingBytes (joinedIn s f (length packet)) (storedIn s store f packet) g
+  join-waits g =
+      elim (ℕ-discrete g f) [
+        | yes e ↦
+            ap (λ (l : List (List ℕ)). waitingBytes s store g ++ l) (bytes-of-own f g packet e)
+            ∙ subst (λ (h : ℕ). waitingBytes s store h ++ (packet ∷ []) ≡ waitingBytes (joinedIn s f (length packet)) (storedIn s store f packet) h) (sym e) (sym join-own)
+        | no d ↦
+            ap (λ (l : List (List ℕ)). waitingBytes s store g ++ l) (bytes-of-another f g packet d)
+            ∙ append-nil (waitingBytes s store g)
+            ∙ sym (join-another g d)
+      ]
 
   join-balances : Balances s store (record { flow = f; bytes = packet } ∷ []) [] (joinedIn s f (length packet)) (storedIn s store f packet)
   unfolding bytesOf
-  join-balances g =
-      elim (ℕ-discrete g f) [
-        | yes e ↦ ap (λ (l : List (List ℕ)). waitingBytes s store g ++ l) (bytes-of-own f g packet e) ∙ sym (subst (λ (h : ℕ). waitingBytes (joinedIn s f (length packet)) (storedIn s store f packet) h ≡ waitingBytes s store h ++ (packet ∷ [])) (sym e) join-own)
-        | no d ↦ ap (λ (l : List (List ℕ)). waitingBytes s store g ++ l) (bytes-of-another f g packet d) ∙ append-nil (waitingBytes s store g) ∙ sym (join-another g d)
-      ]
+  join-balances g = join-waits g
 
 -- An offer, whatever is lent.
 module _ (s : Scheduler) (R : Rules s) (store : List ℕ) (whole : length store ≡ storeLength) (f : ℕ) (packet : List ℕ) (n : ℕ) where
@@ -168,14 +195,20 @@ module _ (s : Scheduler) (store : List ℕ) (d : Sent) (t : Scheduler) (L : Leav
       ap (heldFrom store (d .flow) (flowAt s (d .flow) .slot)) (L .first-in-queue)
       ∙ ap (λ (k : ℕ). firstHeld s store d ∷ heldFrom store (d .flow) k (flowAt t (d .flow) .queue)) (sym (L .slot-moves-on))
 
+  leave-waits : (g : ℕ) → waitingBytes s store g ≡ bytesOf g (record { flow = d .flow; bytes = firstHeld s store d } ∷ []) ++ waitingBytes t store g
+  leave-waits g =
+      elim (ℕ-discrete g (d .flow)) [
+        | yes e ↦
+            subst (λ (h : ℕ). waitingBytes s store h ≡ firstHeld s store d ∷ waitingBytes t store h) (sym e) leave-own
+            ∙ ap (λ (l : List (List ℕ)). l ++ waitingBytes t store g) (sym (bytes-of-own (d .flow) g (firstHeld s store d) e))
+        | no n ↦
+            same-flow s t store g (sym (L .others-stay g n))
+            ∙ ap (λ (l : List (List ℕ)). l ++ waitingBytes t store g) (sym (bytes-of-another (d .flow) g (firstHeld s store d) n))
+      ]
+
   leave-balances : Balances s store [] (record { flow = d .flow; bytes = firstHeld s store d } ∷ []) t store
   unfolding bytesOf
-  leave-balances g =
-      append-nil (waitingBytes s store g)
-      ∙ elim (ℕ-discrete g (d .flow)) [
-        | yes e ↦ subst (λ (h : ℕ). waitingBytes s store h ≡ firstHeld s store d ∷ waitingBytes t store h) (sym e) leave-own ∙ ap (λ (l : List (List ℕ)). l ++ waitingBytes t store g) (sym (bytes-of-own (d .flow) g (firstHeld s store d) e))
-        | no n ↦ same-flow s t store g (sym (L .others-stay g n)) ∙ ap (λ (l : List (List ℕ)). l ++ waitingBytes t store g) (sym (bytes-of-another (d .flow) g (firstHeld s store d) n))
-      ]
+  leave-balances g = append-nil (waitingBytes s store g) ∙ leave-waits g
 
 -- A departure, whatever is lent.
 module _ (s : Scheduler) (R : Rules s) (store : List ℕ) (whole : length store ≡ storeLength) (n : ℕ) (out : List ℕ) where
@@ -190,30 +223,51 @@ module _ (s : Scheduler) (R : Rules s) (store : List ℕ) (whole : length store 
   unfolding taken
   one-taken o d e = ap (λ (r : Reply). map (λ (d : Sent). record { flow = d .flow; bytes = take (d .size) (o .out) }) (sentBy r)) e
 
+  -- Where a packet leaves, all of the store was lent, and the outgoing buffer begins with what the flow's first slot held.
+  module _ (z : storeDepartRefusal (lent n store) out ≡ 0) (d : Sent) (e : departed s .reply ≡ Departure d) where
+    first-leaves : Leaves s d (departed s .state)
+    first-leaves = departed-leaves s R d e
+
+    size-small : d .size ≤ sizeLimit
+    size-small = first-in-range (rw (first-leaves .first-in-queue) at (R .flow-rules (d .flow) .sizes-in-range)) .1
+
+    whole-lent : lent n store ≡ store
+    whole-lent = lent-whole n store (omega (arith, lent-length n store, departs s (lent n store) out z .0))
+
+    as-many-held : length (firstHeld s store d) ≡ d .size
+    as-many-held =
+        held-length store (d .flow) (flowAt s (d .flow) .slot) (d .size) whole (first-leaves .in-reach) (R .flow-rules (d .flow) .slot-in-range) size-small
+
+    first-sent : take (d .size) (departMade .out) ≡ firstHeld s store d
+    first-sent =
+        ap (take (d .size)) (depart-made s (lent n store) out z .1 ∙ sent-departure s (lent n store) out (departed s .reply) d e)
+        ∙ ap (λ (l : List ℕ). take (d .size) (firstHeld s l d ++ drop (d .size) out)) whole-lent
+        ∙ take-at (firstHeld s store d) (drop (d .size) out) (d .size) as-many-held
+
+    first-taken : taken departMade ≡ record { flow = d .flow; bytes = firstHeld s store d } ∷ []
+    first-taken =
+        one-taken departMade d (depart-made s (lent n store) out z .2 ∙ e)
+        ∙ ap (λ (b : List ℕ). record { flow = d .flow; bytes = b } ∷ []) first-sent
+
+    departure-balances : Balances s store [] (taken departMade) (departMade .state) store
+    departure-balances g =
+        leave-balances s store d (departed s .state) first-leaves g
+        ∙ ap₂ (λ (l : List Packet) (t : Scheduler). bytesOf g l ++ waitingBytes t store g) (sym first-taken) (sym (depart-made s (lent n store) out z .0))
+
+  none-balances : departMade .state ≡ s → sentBy (departMade .reply) ≡ [] → Balances s store [] (taken departMade) (departMade .state) store
+  none-balances a b g =
+      nothing-moves s (departMade .state) store store a refl g
+      ∙ ap (λ (l : List Packet). bytesOf g l ++ waitingBytes (departMade .state) store g) (sym (none-taken departMade b))
+
   pub depart-balances : Balances s store [] (leaving s store (departing n out)) (stateAfter s store (departing n out)) (storeAfter s store (departing n out))
   unfolding leaving stateAfter storeAfter
   depart-balances = by (storeDepartRefusal (lent n store) out) refl
     where
-      none-left : departMade .state ≡ s → sentBy (departMade .reply) ≡ [] → Balances s store [] (taken departMade) (departMade .state) store
-      none-left a b g = nothing-moves s (departMade .state) store store a refl g ∙ ap (λ (l : List Packet). bytesOf g l ++ waitingBytes (departMade .state) store g) (sym (none-taken departMade b))
-
       reply-by : (r : Reply) → departed s .reply ≡ r → storeDepartRefusal (lent n store) out ≡ 0 → Balances s store [] (taken departMade) (departMade .state) store
-      reply-by (Departure d) e z =
-          let L : Leaves s d (departed s .state) = departed-leaves s R d e in
-          let all : lent n store ≡ store = lent-whole n store (omega (arith, lent-length n store, departs s (lent n store) out z .0)) in
-          let small : d .size ≤ sizeLimit = first-in-range (rw (L .first-in-queue) at (R .flow-rules (d .flow) .sizes-in-range)) .1 in
-          let sent : take (d .size) (departMade .out) ≡ firstHeld s store d =
-          ap (take (d .size)) (depart-made s (lent n store) out z .1 ∙ sent-departure s (lent n store) out (departed s .reply) d e)
-          ∙ ap (λ (l : List ℕ). take (d .size) (firstHeld s l d ++ drop (d .size) out)) all
-          ∙ take-at (firstHeld s store d) (drop (d .size) out) (d .size) (held-length store (d .flow) (flowAt s (d .flow) .slot) (d .size) whole (L .in-reach) (R .flow-rules (d .flow) .slot-in-range) small) in
-          λ g.
-          leave-balances s store d (departed s .state) L g
-          ∙ ap₂ (λ (l : List Packet) (t : Scheduler). bytesOf g l ++ waitingBytes t store g)
-          (sym (one-taken departMade d (depart-made s (lent n store) out z .2 ∙ e) ∙ ap (λ (b : List ℕ). record { flow = d .flow; bytes = b } ∷ []) sent))
-          (sym (depart-made s (lent n store) out z .0))
-      reply-by Idle e z = none-left (depart-made s (lent n store) out z .0 ∙ idle-stays s e) (ap sentBy (depart-made s (lent n store) out z .2 ∙ e))
+      reply-by (Departure d) e z = departure-balances z d e
+      reply-by Idle e z = none-balances (depart-made s (lent n store) out z .0 ∙ idle-stays s e) (ap sentBy (depart-made s (lent n store) out z .2 ∙ e))
       reply-by (Refused k) e z = absurd (never-refused s k e)
 
       by : (m : ℕ) → storeDepartRefusal (lent n store) out ≡ m → Balances s store [] (taken departMade) (departMade .state) store
       by zero e = reply-by (departed s .reply) refl e
-      by (suc m) e = none-left (depart-refused s (lent n store) out m e .0) (ap sentBy (depart-refused s (lent n store) out m e .2))
+      by (suc m) e = none-balances (depart-refused s (lent n store) out m e .0) (ap sentBy (depart-refused s (lent n store) out m e .2))

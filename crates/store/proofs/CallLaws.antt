@@ -6,18 +6,17 @@ use mathlib.Core.Bool.{Bool, cond}
 use native.Mathlib.Omega.{arith}
 use native.Mathlib.Decide.{decLt, ℕ-discrete}
 use lib.ListN.{length, drop}
-use lib.Dec.{ltb, eqb}
+use lib.Dec.{ltb}
 use borrow.Author.Tests.{eq-eqb, ne-eqb, lt-ltb, le-ltb}
 use Rattle.err.specs.Choose.{ifZero}
 use Rattle.err.specs.Model.{Scheduler, flowAt}
-use Rattle.err.specs.Calls.{Outcome, offerRefusal, offered, departed, answerOf, unlessRefused}
-use Rattle.err.specs.declared.Answer.{Answer}
+use Rattle.err.specs.Calls.{offerRefusal, offered, departed, answerOf, unlessRefused}
 use Rattle.err.specs.declared.Answer.the-variants.{Done, Refused as AnswerRefused}
 use Rattle.err.specs.declared.Reply.{Reply}
 use Rattle.err.specs.declared.Reply.the-variants.{Departure, Idle, Refused}
 use Rattle.err.specs.declared.Sent.{Sent}
 use Rattle.store.specs.Slots.{storeLength, outLimit, nextSlotOf, written, held}
-use Rattle.store.specs.Calls.{AfterOffer, AfterDeparture, storeOfferRefusal, storeOffer, storeDepartRefusal, storeDepart, sentOut}
+use Rattle.store.specs.Calls.{storeOfferRefusal, storeOffer, storeDepartRefusal, storeDepart, sentOut}
 
 -- An answer tells whether the call was refused, and with which number.
 pub done-number : (n : ℕ) → answerOf n ≡ Done → n ≡ 0

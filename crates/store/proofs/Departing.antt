@@ -1,13 +1,13 @@
 -- What the model's departure call does to the flow whose packet leaves and to the others: facts of the order layer that the bytes rest on.
 use Prim.Native.Nat.{ℕ, _+_, _<_}
-use mathlib.Core.Path.{_≡_, refl, sym, ap, ap₂, _∙_, subst}
+use mathlib.Core.Path.{_≡_, refl, sym, ap, _∙_, subst}
 use mathlib.Core.List.{List, [], _∷_}
 use mathlib.Core.Bool.{Bool, true, false}
 use native.Mathlib.Omega.{arith}
 use lib.ListN.{length, getD, drop}
 use Rattle.err.specs.Limits.{flowLimit}
 use Rattle.err.specs.Model.{Flow, Round, Scheduler, flowAt}
-use Rattle.err.specs.Steps.{Visit, firstSize, firstLeft, nextSlot, excessKept, turnEnds, turnOpened, roundStarted, surplusCleared, headAllowance, settled, served, visitBy, visit}
+use Rattle.err.specs.Steps.{firstSize, firstLeft, nextSlot, excessKept, turnEnds, turnOpened, roundStarted, surplusCleared, headAllowance, settled, served, visitBy, visit}
 use Rattle.err.specs.Calls.{put, departed}
 use Rattle.err.specs.Rules.{Rules}
 use Rattle.err.specs.declared.Sent.{Sent}

@@ -1,7 +1,7 @@
 -- The site that a call gives back stands for the scheduler that the definitions' call gives. So a chain of calls of the code, each on the site and the
 -- store that the one before it left, goes as the chains of `specs/Chain`.
 use Prim.Native.Nat.{ℕ, zero, suc}
-use mathlib.Core.Path.{_≡_, sym, ap, _∙_}
+use mathlib.Core.Path.{_≡_, ap, _∙_}
 use mathlib.Core.List.{List}
 use lib.ListN.{length}
 use Rattle.err.specs.Choose.{ifZero}

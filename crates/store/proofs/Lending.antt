@@ -1,12 +1,12 @@
 -- Lending the store: only where all of it is lent, and no more, is it the store itself that a call works on; lent and given back untouched, it is as
 -- it was.
-use Prim.Native.Nat.{ℕ, zero, suc, _+_, _-_, _≤_, _<_}
+use Prim.Native.Nat.{ℕ, zero, suc, _-_}
 use mathlib.Core.Path.{_≡_, refl, sym, ap, ap₂, _∙_}
 use mathlib.Core.List.{List, [], _++_, append-nil}
 use native.Mathlib.Omega.{arith}
 use native.Mathlib.Decide.{decLe}
 use lib.ListN.{length, take, drop, replicate, length-append, length-take, length-drop, length-replicate, take-append-drop, drop-of-length-le}
-use lib.Seq.{take-all, take-length, take-append-seam, length-take-le}
+use lib.Seq.{take-all, take-append-seam, length-take-le}
 use Rattle.err.specs.Model.{Scheduler, flowAt}
 use Rattle.err.proofs.Refusals.{MayOffer, may-offer}
 use Rattle.store.specs.Slots.{nextSlotOf}

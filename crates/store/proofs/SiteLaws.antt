@@ -1,23 +1,20 @@
 -- From what the order layer's calls give to what a site's calls promise.
-use Prim.Native.Nat.{ℕ, zero, suc, _+_, _*_, _%_, _≤_, _<_}
-use mathlib.Core.Path.{_≡_, refl, sym, ap, ap₂, _∙_}
+use Prim.Native.Nat.{ℕ, suc, _+_, _%_, _≤_, _<_}
+use mathlib.Core.Path.{_≡_, sym, ap, ap₂, _∙_}
 use mathlib.Core.List.{List, [], _++_}
 use native.Mathlib.Omega.{arith}
 use lib.ListN.{length, getD, drop}
-use mir.Syntax.{w64}
-use mir.Val.{Fits}
 use Rattle.err.specs.Limits.{flowLimit, queueLimit, sizeLimit}
-use Rattle.err.specs.Model.{Flow, Scheduler, flowAt, newScheduler}
-use Rattle.err.specs.Calls.{Outcome, opened, offerRefusal, offered, unlessRefused, departed, answerOf}
-use Rattle.err.specs.Rules.{Sizes, FlowRules}
-use Rattle.err.specs.declared.Answer.{Answer}
+use Rattle.err.specs.Model.{Flow, Scheduler, flowAt}
+use Rattle.err.specs.Calls.{offerRefusal, offered, unlessRefused, departed, answerOf}
+use Rattle.err.specs.Rules.{FlowRules}
 use Rattle.err.specs.declared.Answer.the-variants.{Done, Refused as AnswerRefused}
 use Rattle.err.specs.declared.Reply.{Reply}
-use Rattle.err.specs.declared.Reply.the-variants.{Departure, Idle, Refused}
+use Rattle.err.specs.declared.Reply.the-variants.{Departure, Refused}
 use Rattle.err.specs.declared.Sent.{Sent}
 use Rattle.err.proofs.Flows.{first-in-range}
 use Rattle.err.proofs.Refusals.{MayOffer, may-offer}
-use Rattle.order.specs.Encoding.{encode, viewFlow, view, Sound}
+use Rattle.order.specs.Encoding.{viewFlow, Sound}
 use Rattle.order.specs.Premises.{FlowReady}
 use Rattle.order.specs.Promised as order
 use Rattle.order.specs.declared.Answered.{Answered}
@@ -25,13 +22,11 @@ use Rattle.order.specs.declared.Departed.{Departed}
 use Rattle.order.specs.declared.FlowCell.{FlowCell}
 use Rattle.order.specs.declared.State.{State}
 use Rattle.order.proofs.Encoded.{waiting-is}
-use Rattle.order.proofs.StateLaws.{cell-seen}
+use Rattle.order.proofs.StateLaws.{cell-ready, cell-seen}
 use Rattle.store.specs.Slots.{storeLength, outLimit, nextSlotOf, written, held}
-use Rattle.store.specs.Calls.{storeOffer, storeOfferRefusal, storeDepart, storeDepartRefusal, sentOut}
+use Rattle.store.specs.Calls.{storeOffer, storeOfferRefusal, storeDepart, storeDepartRefusal}
 use Rattle.store.specs.Promised.{schedulerOf, SoundSite, siteOf, answeredAs, departedAs, NewGives, OpenGives, OfferGives, DepartGives}
 use Rattle.store.specs.declared.Site.{Site}
-use Rattle.store.specs.declared.SiteAnswered.{SiteAnswered}
-use Rattle.store.specs.declared.SiteDeparted.{SiteDeparted}
 use Rattle.store.proofs.CallLaws.{done-number, refused-number, offer-wrong-store, offer-right-store, offer-state, offer-answer, offer-refused, offer-stores, offer-number, depart-wrong-store, depart-short-out, depart-may, depart-refused, depart-made, sent-departure, sent-nothing}
 use Rattle.store.proofs.Departing.{Leaves, departed-leaves}
 
@@ -39,16 +34,7 @@ use Rattle.store.proofs.Departing.{Leaves, departed-leaves}
 abbrev pub noCell : FlowCell
 noCell = record { weight = 0; surplus = 0; slot = 0; waiting = 0; sizes = 0 }
 
--- Numbers in range fit the machine's.
-pub flow-fits : (f : ℕ) → f < flowLimit → Fits w64 f
-flow-fits f h = omega arith
-
-pub place-fits : (f : ℕ) → f < flowLimit → Fits w64 (f * 16)
-place-fits f h = omega arith
-
-pub size-fits : (n : ℕ) → n ≤ sizeLimit → Fits w64 n
-size-fits n h = omega arith
-
+-- The slot that a flow's next packet takes is one of its slots.
 pub next-in-reach : (k : ℕ) (cells : List FlowCell) (f : ℕ) → k ≡ nextSlotOf (viewFlow (getD cells f noCell)) → k < queueLimit
 next-in-reach k cells f e = omega arith
 
@@ -61,6 +47,10 @@ module _ (x : FlowCell) (h : FlowReady x) where
   pub next-slot-law : (x .slot + x .waiting) % queueLimit ≡ nextSlotOf (viewFlow x)
   unfolding viewFlow
   next-slot-law = ap (λ (n : ℕ). (x .slot + n) % queueLimit) (waiting-is x (h .form))
+
+-- The first slot of a flow of a sound state.
+pub first-in-reach : (o : State) → Sound o → (f k : ℕ) → f < flowLimit → k ≡ viewFlow (getD (o .flows) f noCell) .slot → k < queueLimit
+first-in-reach o S f k h e = omega (arith, cell-ready o S f h .rules .slot-in-range)
 
 pub new-law : (o : State) → order.GivesNew o → NewGives (record { order = o })
 unfolding siteOf
@@ -199,22 +189,16 @@ module _ (site : Site) (S : SoundSite site) where
         pub size-in-range : d .size ≤ sizeLimit
         size-in-range = first-in-range (rw (leaves .first-in-queue) at (rules-of (d .flow) .sizes-in-range)) .1
 
-        module _ (k : ℕ) (at : k ≡ viewFlow (getD (site .order .flows) (d .flow) noCell) .slot) where
-          slot-is : k ≡ flowAt s (d .flow) .slot
-          slot-is = at ∙ ap (λ (x : Flow). x .slot) (cell-of (d .flow) flow-in-reach)
-
-          pub slot-in-reach : k < queueLimit
-          slot-in-reach = omega (arith, slot-is, rules-of (d .flow) .slot-in-range)
-
-          -- The bytes lay in the slot that was read off the state before the call.
-          pub sent-departed : (after : List ℕ) → after ≡ held store (d .flow) k (d .size) ++ drop (d .size) out
-              → DepartGives site store out after (record { site = record { order = a .state }; reply = Departure d })
-          sent-departed after w =
-              record {
-                outcome = ap (λ (r : Reply). record { site = record { order = a .state }; reply = r }) (sym e) ∙ departure-outcome;
-                sent =
-                    w
-                    ∙ ap (λ (j : ℕ). held store (d .flow) j (d .size) ++ drop (d .size) out) slot-is
-                    ∙ sym (depart-made s store out may .1 ∙ sent-departure s store out (departed s .reply) d (sym reply-is ∙ e));
-                sound = g .sound;
-              }
+        -- The bytes lay in the slot that was read off the state before the call.
+        pub sent-departed : (k : ℕ) (after : List ℕ) → k ≡ viewFlow (getD (site .order .flows) (d .flow) noCell) .slot
+            → after ≡ held store (d .flow) k (d .size) ++ drop (d .size) out
+            → DepartGives site store out after (record { site = record { order = a .state }; reply = Departure d })
+        sent-departed k after at w =
+            record {
+              outcome = ap (λ (r : Reply). record { site = record { order = a .state }; reply = r }) (sym e) ∙ departure-outcome;
+              sent =
+                  w
+                  ∙ ap (λ (j : ℕ). held store (d .flow) j (d .size) ++ drop (d .size) out) (at ∙ ap (λ (x : Flow). x .slot) (cell-of (d .flow) flow-in-reach))
+                  ∙ sym (depart-made s store out may .1 ∙ sent-departure s store out (departed s .reply) d (sym reply-is ∙ e));
+              sound = g .sound;
+            }

@@ -1,18 +1,15 @@
 -- A refusal changes neither the site nor any buffer lent to the call, and idle changes none of them either.
 use Prim.Native.Nat.{ℕ, zero, suc}
-use mathlib.Core.Path.{_≡_, refl, sym, ap, ap₂, _∙_}
+use mathlib.Core.Path.{_≡_, refl, sym, ap, _∙_}
 use mathlib.Core.List.{List, [], _∷_}
 use native.Mathlib.Omega.{arith}
-use Rattle.err.specs.Choose.{ifZero}
 use Rattle.err.specs.Model.{Scheduler, flowAt}
 use Rattle.err.specs.Calls.{opened, openRefusal, departed, unlessRefused}
 use Rattle.err.specs.Replies.{sentBy}
-use Rattle.err.specs.declared.Sent.{Sent}
-use Rattle.err.specs.declared.Answer.{Answer}
 use Rattle.err.specs.declared.Answer.the-variants.{Refused as AnswerRefused}
 use Rattle.err.specs.declared.Reply.{Reply}
 use Rattle.err.specs.declared.Reply.the-variants.{Departure, Idle, Refused}
-use Rattle.store.specs.Calls.{storeOffer, storeOfferRefusal, storeDepart, storeDepartRefusal, sentOut}
+use Rattle.store.specs.Calls.{storeOffer, storeOfferRefusal, storeDepart, storeDepartRefusal}
 use Rattle.store.specs.Promised.{schedulerOf, SoundSite, siteOf, answeredAs, departedAs, OpenGives, OfferGives, DepartGives}
 use Rattle.store.specs.declared.Site.{Site}
 use Rattle.store.specs.declared.SiteAnswered.{SiteAnswered}

@@ -17,6 +17,7 @@ pub const OUT_SHORT: u8 = 7;
 
 pub const STORE_WRONG: u8 = 8;
 
+// A scheduler whose packets lie in a store. Order-layer calls give a State back and no Site, so a chain of sites has store calls only.
 pub struct Site {
     pub order: State,
 }
@@ -77,6 +78,7 @@ impl Site {
         let state = asked.state;
         let answer = asked.answer;
         if let Answer::Done = answer {
+            // An accepted flow number is one of the state's.
             slots::write(store, f, slots::next(order.flows[f]), packet);
         }
         SiteAnswered {
@@ -107,6 +109,7 @@ impl Site {
         let state = sent.state;
         let reply = sent.reply;
         if let Reply::Departure(d) = reply {
+            // The bytes lie in the slot that was the flow's first before the call: `order` is still as it was then.
             let f = d.flow as usize;
             slots::read(store, f, slots::first(order.flows[f]), d.size as usize, out);
         }

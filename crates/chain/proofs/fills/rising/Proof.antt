@@ -1,9 +1,9 @@
 -- The numbers are small: below 256 times below 512.
-use Prim.Native.Nat.{_*_, _-_, _≤_, _<_}
+use Prim.Native.Nat.{_*_, _-_, _≤_}
 use mathlib.Core.Path.{_≡_}
 use native.Mathlib.Omega.{arith}
 use native.Mathlib.Nat.{mul-le-mul}
-use lib.ListN.{length, length-set}
+use lib.ListN.{length}
 use borrow.Author.Needs.{needs}
 use Rattle.chain.proofs.fills.rising.Statement.{statement}
 use Rattle.chain.proofs.fills.rising.Tie as tie

@@ -1,8 +1,7 @@
 -- The store's length bounds every sum.
-use Prim.Native.Nat.{_-_, _≤_, _<_}
+use Prim.Native.Nat.{_-_, _≤_}
 use mathlib.Core.Path.{_≡_}
-use native.Mathlib.Omega.{arith}
-use lib.ListN.{length, length-set}
+use lib.ListN.{length}
 use borrow.Author.Needs.{needs}
 use Rattle.chain.proofs.fills.rows.Statement.{statement}
 use Rattle.chain.proofs.fills.rows.Tie as tie

@@ -1,12 +1,12 @@
 -- One law for each way out: the store's length is wrong, the outgoing buffer is short, a packet leaves, none leaves.
-use mathlib.Core.Path.{_≡_, ap}
+use mathlib.Core.Path.{ap}
 use mathlib.Core.Logic.{⊎-elim}
 use Prim.Native.Nat.{_≤_, _<_}
 use native.Mathlib.Omega.{arith}
 use denote.Enum.Declared.{tagOf}
 use Rattle.err.specs.Limits.{flowLimit, sizeLimit}
 use Rattle.err.proofs.Reply.{the-type}
-use Rattle.store.proofs.SiteLaws.{flow-fits, place-fits, size-fits, wrong-store-departure, short-out-departure, no-departure, flow-in-reach, size-in-range, slot-in-reach, sent-departed}
+use Rattle.store.proofs.SiteLaws.{wrong-store-departure, short-out-departure, no-departure, flow-in-reach, size-in-range, first-in-reach, sent-departed}
 use Rattle.store.proofs.Site.depart.Statement.{statement}
 use Rattle.store.proofs.Site.depart.Tie as tie
 
@@ -38,10 +38,10 @@ in-range c =
     )
 
 cast-f : tie.Need-cast-f
-cast-f c = flow-fits (c .before .before .reply .given .0 .0 .flow) (in-range (c .before .before) .0)
+cast-f c = omega (arith, in-range (c .before .before) .0)
 
 mul-first : tie.Need-mul-first
-mul-first c = place-fits (c .before .before .reply .given .0 .0 .flow) (in-range (c .before .before) .0)
+mul-first c = omega (arith, in-range (c .before .before) .0)
 
 element-copy-out-first : tie.Need-element-copy-out-first
 element-copy-out-first c = in-range (c .before .before) .0
@@ -50,24 +50,21 @@ first-requires : tie.Need-first-requires
 first-requires c κs = tt
 
 cast-read : tie.Need-cast-read
-cast-read c = size-fits (c .before .before .before .before .before .reply .given .0 .0 .size) (in-range (c .before .before .before .before .before) .1)
+cast-read c = omega (arith, in-range (c .before .before .before .before .before) .1)
 
 read-requires : tie.Need-read-requires
 read-requires c κs =
     let at = c .before .before .before .before .before .before .before .before .before .before .before .before .before .before .before in
-    let store-right = c .before .before .before .before .before .before .before .before .before .before .before .before .if1 .left in
-    let out-long = c .before .before .before .before .before .before .before .before .before .before .before .if2 .left in
-    let left = c .before .before .before .before .before .before .before .before .before .depart in
     let reply = c .before .before .before .before .before .before in
     let slot = c .before .before .first in (
-      store-right,
+      c .before .before .before .before .before .before .before .before .before .before .before .before .if1 .left,
       (
         (
           in-range reply .0,
-          slot-in-reach (at .args .self) (at .pre) (at .args .store .now) (at .args .out .now) store-right out-long (left .result) (left .ensures) (reply .reply .given .0 .0) (reply .reply .given .1) (slot .result) (slot .ensures),
+          first-in-reach (at .args .self .order) (at .pre) (reply .reply .given .0 .0 .flow) (slot .result) (in-range reply .0) (slot .ensures),
           in-range reply .1,
         ),
-        out-long,
+        c .before .before .before .before .before .before .before .before .before .before .before .if2 .left,
       ),
     )
 
@@ -83,8 +80,8 @@ returns-3 c =
     let reply = c .before .before .before .before .before .before .before .before .before .reply in
     let slot = c .before .before .before .before .before .first in
     sent-departed (at .args .self) (at .pre) (at .args .store .now) (at .args .out .now) store-right out-long (left .result) (left .ensures)
-    (reply .given .0 .0) (reply .given .1) (slot .result) (slot .ensures)
-    (c .before .before .read .last .1 .1 .1 .1 .0) (c .before .before .read .ensures)
+    (reply .given .0 .0) (reply .given .1)
+    (slot .result) (c .before .before .read .last .1 .1 .1 .1 .0) (slot .ensures) (c .before .before .read .ensures)
 
 returns-4 : tie.Need-returns-4
 returns-4 c =

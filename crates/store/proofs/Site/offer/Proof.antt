@@ -1,10 +1,10 @@
 -- One law for each way out: the store's length is wrong, the order layer accepts, the order layer refuses.
+use Prim.Native.Nat.{_≤_, _<_}
+use native.Mathlib.Omega.{arith}
 use lib.ListN.{length}
-use Rattle.err.specs.Model.{flowAt}
-use Rattle.err.proofs.Refusals.{MayOffer}
+use Rattle.err.specs.Limits.{flowLimit, sizeLimit}
 use Rattle.order.proofs.StateLaws.{cell-ready}
-use Rattle.store.specs.Promised.{schedulerOf}
-use Rattle.store.proofs.SiteLaws.{place-fits, next-in-reach, wrong-store-offer, accepted, accepted-offer, refused-offer}
+use Rattle.store.proofs.SiteLaws.{next-in-reach, wrong-store-offer, accepted, accepted-offer, refused-offer}
 use Rattle.store.proofs.Site.offer.Statement.{statement}
 use Rattle.store.proofs.Site.offer.Tie as tie
 
@@ -19,29 +19,35 @@ offer-requires c κs = c .before .before .before .before .pre
 enum-told : tie.Need-enum-told
 enum-told c = c .match .keys1
 
--- Where the order layer accepts, the flow's number, the packet's size and the queue are in range.
-may : (c : tie.After-enum-told) → MayOffer (c .before .before .before .before .before .before .before .before .args .f) (length (c .before .before .before .before .before .before .before .before .args .packet .now)) (flowAt (schedulerOf (c .before .before .before .before .before .before .before .before .args .self)) (c .before .before .before .before .before .before .before .before .args .f))
-may c =
-    let at = c .before .before .before .before .before .before .before .before in
+abbrev start : tie.After-enum-told → tie.Start
+start c = c .before .before .before .before .before .before .before .before
+
+-- Where the order layer accepts, the flow's number and the packet's size are in range.
+in-range : (c : tie.After-enum-told) → (start c .args .f < flowLimit) × (length (start c .args .packet .now) ≤ sizeLimit)
+in-range c =
+    let at = start c in
     let asked = c .before .before .before .offer in
-    accepted (at .args .self) (at .pre) (at .args .f) (at .args .packet .now) (at .args .store .now) (c .before .before .before .before .before .if1 .left) (asked .result) (asked .ensures) (c .enum-told .given .1)
+    let may =
+    accepted (at .args .self) (at .pre) (at .args .f) (at .args .packet .now) (at .args .store .now)
+    (c .before .before .before .before .before .if1 .left) (asked .result) (asked .ensures) (c .enum-told .given .1) in
+    (may .flow-in-range, may .size-small)
 
 mul-next : tie.Need-mul-next
-mul-next c = place-fits (c .before .before .before .before .before .before .before .before .before .args .f) (may (c .before) .flow-in-range)
+mul-next c = omega (arith, in-range (c .before) .0)
 
 element-copy-out-next : tie.Need-element-copy-out-next
-element-copy-out-next c = may (c .before) .flow-in-range
+element-copy-out-next c = in-range (c .before) .0
 
 next-requires : tie.Need-next-requires
 next-requires c κs =
     let at = c .before .before .before .before .before .before .before .before .before .before in
-    cell-ready (at .args .self .order) (at .pre) (at .args .f) (may (c .before .before) .flow-in-range)
+    cell-ready (at .args .self .order) (at .pre) (at .args .f) (in-range (c .before .before) .0)
 
 write-requires : tie.Need-write-requires
 write-requires c κs =
     let at = c .before .before .before .before .before .before .before .before .before .before .before in (
       c .before .before .before .before .before .before .before .before .if1 .left,
-      (may (c .before .before .before) .flow-in-range, next-in-reach (c .next .result) (at .args .self .order .flows) (at .args .f) (c .next .ensures), may (c .before .before .before) .size-small),
+      (in-range (c .before .before .before) .0, next-in-reach (c .next .result) (at .args .self .order .flows) (at .args .f) (c .next .ensures), in-range (c .before .before .before) .1),
     )
 
 enum-told-2 : tie.Need-enum-told-2
