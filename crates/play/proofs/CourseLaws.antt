@@ -1,9 +1,8 @@
--- From what the scheduler's calls and the printing functions give to what `run`, `send` and `play` promise. Assumes nothing.
-use Prim.Native.Nat.{ℕ, zero, suc, _+_, _*_, _-_, _^_, _<_, _≤_}
+-- From what the scheduler's calls and the printing functions give to what `run` and `send` promise. Assumes nothing.
+use Prim.Native.Nat.{ℕ, suc, _+_, _-_, _^_, _<_, _≤_}
 use native.Mathlib.Omega.{arith}
-use mathlib.Core.List.{List, [], _∷_, _++_}
+use mathlib.Core.List.{List, [], _∷_}
 use mathlib.Core.Path.{_≡_, refl, sym, ap, ap₂, _∙_, subst}
-use lib.ListN.{length}
 use denote.Enum.Declared.{tagOf}
 use types.Run.{OneOf}
 use Rattle.err.specs.Model.{Scheduler}
@@ -24,11 +23,11 @@ use Rattle.order.specs.declared.State.{State}
 use Rattle.order.proofs.StateLaws.{seen}
 use Rattle.play.specs.Course.{replayOf, asked, Goes}
 use Rattle.print.specs.Page.{Page, page, put}
-use Rattle.play.specs.Story.{Report, bad, refused, sent, idle, Replay, Happening, refusal, answered, sending, happening}
+use Rattle.play.specs.Story.{sent, idle, Replay, Happening, refusal, answered, sending, happening}
 use Rattle.play.specs.Transcript.{lineOf, textOf}
 use Rattle.play.specs.declared.Course.{Course}
 use Rattle.print.proofs.PageLaws.{put-append}
-use Rattle.play.proofs.StoryLaws.{text-of-one, text-append, replay, sending-none, sending-goes-on, sending-ends}
+use Rattle.play.proofs.StoryLaws.{text-of-one, replay, sending-none, sending-goes-on, sending-ends}
 
 -- ---- the scheduler that a state given back stands for
 

@@ -1,20 +1,21 @@
 -- No transcript is longer than three times the longest input and a line. Every line that is printed is paid for by bytes of the input, three for one:
 -- a departure's line by the line on which its packet arrived.
---     transcript-fits   a buffer of four times the longest input holds every transcript
---     count-within      what `play` counts is within the buffer
+--     transcript-fits    a buffer of four times the longest input holds every transcript
+--     nothing-left-off   so what `play` puts into such a buffer is the whole transcript
+--     count-within       what `play` counts is within the buffer, so that a caller may lend it on
 -- Assumes nothing.
 use Prim.Native.Nat.{ℕ, zero, suc, _+_, _*_, _-_, _^_, _<_, _≤_}
 use native.Mathlib.Decide.{decLt}
-use native.Mathlib.Nat.{le-trans}
 use native.Mathlib.Omega.{arith}
 use mathlib.Core.Bool.{Bool, true, false, cond, _||_}
 use mathlib.Core.List.{List, [], _∷_, _++_}
-use mathlib.Core.Path.{_≡_, refl, sym, ap, _∙_, subst}
-use lib.ListN.{length, length-append}
+use mathlib.Core.Path.{_≡_, refl, ap, ap₂, _∙_}
+use lib.ListN.{length, take, drop, length-append}
+use lib.Seq.{take-all, take-append-seam}
 use lib.Dec.{leb, ltb, eqb}
 use Rattle.err.specs.Limits.{flowLimit, weightLimit, sizeLimit, queueLimit}
 use Rattle.err.specs.Model.{Flow, Scheduler, flowAt, newScheduler}
-use Rattle.err.specs.Calls.{Outcome, Departures, answerOf, unlessRefused, openRefusal, offerRefusal, opened, offered, departed, andThen, departures}
+use Rattle.err.specs.Calls.{Departures, unlessRefused, openRefusal, offerRefusal, opened, offered, departed, andThen, departures}
 use Rattle.err.specs.Rules.{Rules}
 use Rattle.err.specs.declared.Reply.{Reply}
 use Rattle.err.specs.declared.Reply.the-variants.{Departure, Idle, Refused as ReplyRefused}
@@ -30,8 +31,8 @@ use Rattle.lines.specs.declared.Line.the-variants.{Read, Bad}
 use Rattle.lines.proofs.Decimal.{decimal-length, decimal-begins}
 use Rattle.lines.proofs.Lines.{nothing-else-is-read, moves-on}
 use Rattle.print.specs.Page.{Printed}
-use Rattle.play.specs.Script.{Script, ended, spoiled, _then_, scriptFrom, scriptOf}
-use Rattle.play.specs.Story.{Report, bad, refused, sent, idle, Replay, Happening, newReplay, refusal, answered, numbered, departing, sending, happening, story}
+use Rattle.play.specs.Script.{Script, scriptFrom, scriptOf}
+use Rattle.play.specs.Story.{Report, bad, refused, sent, idle, Replay, Happening, newReplay, answered, numbered, departing, sending, happening, story}
 use Rattle.play.specs.Transcript.{inputLimit, outputLimit, replyText, lineOf, textOf, transcript}
 use Rattle.play.proofs.PlayLaws.{too-long, short-enough}
 use Rattle.play.proofs.ScriptLaws.{ends, reads, spoils}
@@ -291,10 +292,21 @@ transcript-length input =
           (arith, ap length (short-enough input (omega arith)), story-length (length input) input 0 1 newReplay (omega arith) (omega arith) (omega arith) new-keeps (omega (arith, nothing-waits)), nothing-waits)
     ]
 
--- A buffer of this length holds every transcript.
+-- ---- the theorems
+
 pub transcript-fits : (input : List ℕ) → length (transcript input) ≤ outputLimit
 transcript-fits input = omega (arith, transcript-length input)
 
--- What `play` counts is within the buffer, so that a caller may lend it on.
+pub nothing-left-off : (input before after : List ℕ) (count : ℕ) → outputLimit ≤ length before → Printed (transcript input) before after count → take count after ≡ transcript input
+nothing-left-off input before after count room p =
+    ap₂ take all (p .written ∙ ap (λ (l : List ℕ). l ++ drop (length text) before) (take-all (length before) text (omega (arith, transcript-fits input))))
+    ∙ take-append-seam text (drop (length text) before)
+  where
+    text : List ℕ
+    text = transcript input
+
+    all : count ≡ length text
+    all = omega (arith, p .counted, transcript-fits input)
+
 pub count-within : {text before after : List ℕ} {count : ℕ} → Printed text before after count → length after ≡ length before → count ≤ length after
 count-within p e = omega (arith, p .counted)

@@ -1,9 +1,9 @@
--- What is left of a replay in the loop of `play` leads to the whole transcript. Assumes nothing.
+-- What is left of an input, in the loop of `replay`, leads to the whole transcript. Assumes nothing.
 use Prim.Native.Nat.{ℕ, _+_, _*_, _-_, _^_, _<_, _≤_}
 use native.Mathlib.Omega.{arith}
 use mathlib.Core.Bool.{Bool, cond}
-use mathlib.Core.List.{List, [], _∷_, _++_}
-use mathlib.Core.Path.{_≡_, refl, sym, ap, ap₂, _∙_, subst}
+use mathlib.Core.List.{List, [], _∷_}
+use mathlib.Core.Path.{_≡_, sym, ap, ap₂, _∙_}
 use lib.ListN.{length}
 use borrow.Author.Tests.{lt-ltb, le-ltb}
 use Rattle.err.specs.Model.{Scheduler, newScheduler}
@@ -21,8 +21,8 @@ use Rattle.order.specs.declared.State.{State}
 use Rattle.order.proofs.StateLaws.{seen}
 use Rattle.play.specs.Course.{replayOf, asked, Goes}
 use Rattle.print.specs.Page.{Page, page, put}
-use Rattle.play.specs.Script.{Script, ended, spoiled, _then_, scriptFrom, scriptOf}
-use Rattle.play.specs.Story.{Report, bad, Replay, Happening, newReplay, happening, story}
+use Rattle.play.specs.Script.{Script, scriptFrom, scriptOf}
+use Rattle.play.specs.Story.{bad, Replay, Happening, newReplay, happening, story}
 use Rattle.play.specs.Transcript.{inputLimit, lineOf, textOf, reportsOf, transcript}
 use Rattle.play.specs.declared.Course.{Course}
 use Rattle.print.proofs.PageLaws.{put-append}

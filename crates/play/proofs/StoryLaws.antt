@@ -1,12 +1,12 @@
 -- What is told of an event, and what it makes of a replay, step by step. Assumes nothing.
-use Prim.Native.Nat.{ℕ, zero, suc, _+_, _<_, _≤_}
+use Prim.Native.Nat.{ℕ, zero, suc, _+_, _≤_}
 use native.Mathlib.Omega.{arith}
 use mathlib.Core.Bool.{Bool, cond}
 use mathlib.Core.List.{List, [], _∷_, _++_, append-nil, append-assoc}
 use mathlib.Core.Logic.{⊎-elim}
 use mathlib.Core.Path.{_≡_, refl, sym, ap, ap₂, _∙_}
 use lib.ListN.{length}
-use lib.Dec.{ltb, leb·suc-suc}
+use lib.Dec.{leb·suc-suc}
 use borrow.Author.Tests.{lt-ltb}
 use denote.Enum.Declared.{tagOf}
 use types.Run.{OneOf}
@@ -22,7 +22,7 @@ use Rattle.lines.specs.declared.Event.{Event}
 use Rattle.lines.specs.declared.Event.the-variants.{Flow, Arrive, Send}
 use Rattle.play.specs.Course.{asked}
 use Rattle.print.specs.Page.{Page, put}
-use Rattle.play.specs.Story.{Report, refused, sent, idle, Replay, Happening, refusal, answered, numbered, departing, sending, happening}
+use Rattle.play.specs.Story.{Report, refused, sent, idle, Replay, refusal, answered, numbered, departing, sending, happening}
 use Rattle.play.specs.Transcript.{lineOf, textOf}
 
 -- ---- the text of reports

@@ -1,11 +1,11 @@
 -- How many packets wait in all flows together, and what each call makes of that number; the numbers that a departure tells are in range.
 -- Assumes nothing.
-use Prim.Native.Nat.{ℕ, zero, suc, _+_, _*_, _-_, _<_, _≤_, suc-le-suc}
+use Prim.Native.Nat.{ℕ, zero, suc, _+_, _<_, _≤_, suc-le-suc}
 use native.Mathlib.Decide.{decLt}
 use native.Mathlib.Nat.{mul-le-mul}
 use native.Mathlib.Omega.{arith}
-use mathlib.Core.Bool.{Bool, true, false, cond}
-use mathlib.Core.List.{List, [], _∷_, _++_}
+use mathlib.Core.Bool.{Bool, true, false}
+use mathlib.Core.List.{List, [], _∷_}
 use mathlib.Core.Path.{_≡_, refl, sym, ap, ap₂, _∙_, subst}
 use lib.ListN.{length, getD, set, drop, length-append, length-drop, List·getD-eq-default}
 use lib.Seq.{set-out}
@@ -15,12 +15,11 @@ use Rattle.err.specs.Model.{Flow, Round, Scheduler, closedFlow, flowAt, newSche
 use Rattle.err.specs.Steps.{Visit, packetJoined, flowLined, roundStarted, turnOpened, surplusCleared, firstSize, firstLeft, excessKept, turnEnds, settled, served, headAllowance, visitBy, visit, whose, whoseTurn}
 use Rattle.err.specs.Calls.{put, openFlow, nextVisit, departed}
 use Rattle.err.specs.Rules.{Sizes, none, one, Rules}
-use Rattle.err.specs.declared.Reply.{Reply}
 use Rattle.err.specs.declared.Reply.the-variants.{Departure, Idle}
 use Rattle.err.specs.declared.Sent.{Sent}
 use Rattle.err.specs.declared.Serving.{Serving}
 use Rattle.err.specs.declared.Serving.the-variants.{NoTurn, Turn}
-use Rattle.err.proofs.Standing.{InRange, TurnFacts, HeadFacts, in-range, turn-facts, head-facts}
+use Rattle.err.proofs.Standing.{in-range, turn-facts, head-facts}
 
 -- ---- the packets of a list of flows
 

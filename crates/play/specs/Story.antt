@@ -1,4 +1,4 @@
--- What happens in a replay: the calls that its events make, and what is told of them. Assumes nothing.
+-- What happens in a replay: each event is a call on the scheduler, and what is told of it. Assumes nothing.
 use Prim.Native.Nat.{ℕ, _+_}
 use mathlib.Core.Bool.{cond}
 use mathlib.Core.List.{List, [], _∷_, _++_}
@@ -37,7 +37,7 @@ pub record Happening : Type 0 where
   pub after : Replay
   pub reports : List Report
 
--- A refused event tells its refusal, and the replay goes on.
+-- A refused event is told, and the replay goes on; nothing is told of one that is done.
 abbrev pub refusal : Answer → ℕ → List Report
 refusal Done line = []
 refusal (Refused k) line = refused k line ∷ []

@@ -21,7 +21,7 @@ unfoldable pub put : Page → List ℕ → Page
 put p [] = p
 put p (byte ∷ text) = put (putByte p byte) text
 
--- A text is printed into a buffer from its start: so many bytes, which are its first; the rest of the buffer is as before.
+-- A text is printed into a buffer from its start, as many of its bytes as fit; the rest of the buffer is as before.
 pub record Printed (text before after : List ℕ) (count : ℕ) : Type 0 where
   pub counted : count ≡ min (length text) (length before)
   pub written : after ≡ take (length before) text ++ drop (length text) before

@@ -23,6 +23,7 @@ pub fn decimal(out: &mut [u8], at: usize, number: usize) -> usize
     byte(out, end, b'0' + (number % 10) as u8)
 }
 
+// The bytes of a text, one behind the other.
 pub fn word(out: &mut [u8], at: usize, text: &[u8]) -> usize
     ensures { λ past. ⌜ page (now (out .exit)) past ≡ put (page (now (out .entry)) at) (now (text .entry)) ⌝ }
 {
@@ -35,6 +36,7 @@ pub fn word(out: &mut [u8], at: usize, text: &[u8]) -> usize
     end
 }
 
+// One byte, where there is room for it.
 pub fn byte(out: &mut [u8], at: usize, b: u8) -> usize
     ensures { λ past. ⌜ page (now (out .exit)) past ≡ put (page (now (out .entry)) at) (b ∷ []) ⌝ }
 {

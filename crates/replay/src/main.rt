@@ -11,6 +11,7 @@ fn main() {
     let Intake::Bytes(length) = intake::whole(STDIN_FILENO, &mut input) else {
         return;
     };
+    // room for any transcript
     let mut out = [0u8; OUTPUT_LIMIT];
     let written = play::play(&input[..length], &mut out);
     io::write_all(STDOUT_FILENO, &out[..written]);

@@ -1,4 +1,5 @@
 // Recorded replays: for each name among the arguments, says whether the replay of NAME.in prints what NAME.out has.
+// `reference/vectors.sh` records them, with a program that shares no code with this one.
 ghost use Rattle.intake.specs.Intake.{Within};
 use intake::Intake;
 use libc::STDOUT_FILENO;
