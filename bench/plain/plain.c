@@ -412,6 +412,23 @@ static void bursts(uint64_t n)
     }
 }
 
+/* A burst of 100 from one full state, over and over: works on a copy, so that the state is kept. */
+static void again(uint64_t n)
+{
+    struct scheduler full;
+    uint8_t list[100] = {0};
+    open_flows(&full, FLOWS);
+    for (unsigned k = 0; k < FLOWS * QUEUE; k++)
+        offer(&full, k / QUEUE, mixed_size(k));
+    for (uint64_t i = 0; i < n; i++) {
+        struct scheduler s = full;
+        size_t made = 0;
+        burst(&s, sizeof list, list, sizeof list, &made);
+        fold((uint32_t)made);
+        fold(list[sizeof list - 1]);
+    }
+}
+
 /* One packet into the store and one out of it, over and over. */
 static void store_pairs(size_t length, uint64_t n)
 {
@@ -447,6 +464,7 @@ static int usage(void)
 {
     fputs("usage: plain pairs FLOWS N   FLOWS from 1 to 32\n"
           "       plain burst N\n"
+          "       plain again N\n"
           "       plain store LEN N     LEN from 1 to 256\n"
           "       plain replay\n",
           stderr);
@@ -460,21 +478,38 @@ static bool number_in(const char *word, uint64_t low, uint64_t high, uint64_t *n
     return *word != '\0' && *end == '\0' && *number >= low && *number <= high;
 }
 
+/* The modes that are built. -DMODES=MODE_STORE, say, builds a program with that mode alone. */
+enum {
+    MODE_PAIRS = 1,
+    MODE_BURST = 2,
+    MODE_AGAIN = 4,
+    MODE_STORE = 8,
+    MODE_REPLAY = 16,
+};
+
+#ifndef MODES
+#define MODES (MODE_PAIRS | MODE_BURST | MODE_AGAIN | MODE_STORE | MODE_REPLAY)
+#endif
+
 int main(int argc, char **argv)
 {
     const char *mode = argc > 1 ? argv[1] : "";
     uint64_t first, n;
-    if (argc == 2 && strcmp(mode, "replay") == 0) {
+    if ((MODES & MODE_REPLAY) && argc == 2 && strcmp(mode, "replay") == 0) {
         replay();
         return 0;
     }
-    if (argc == 4 && strcmp(mode, "pairs") == 0 && number_in(argv[2], 1, FLOWS, &first) &&
-        number_in(argv[3], 0, INT64_MAX, &n))
+    if ((MODES & MODE_PAIRS) && argc == 4 && strcmp(mode, "pairs") == 0 &&
+        number_in(argv[2], 1, FLOWS, &first) && number_in(argv[3], 0, INT64_MAX, &n))
         pairs((unsigned)first, n);
-    else if (argc == 3 && strcmp(mode, "burst") == 0 && number_in(argv[2], 0, INT64_MAX, &n))
+    else if ((MODES & MODE_BURST) && argc == 3 && strcmp(mode, "burst") == 0 &&
+             number_in(argv[2], 0, INT64_MAX, &n))
         bursts(n);
-    else if (argc == 4 && strcmp(mode, "store") == 0 && number_in(argv[2], 1, MAX_SIZE, &first) &&
-             number_in(argv[3], 0, INT64_MAX, &n))
+    else if ((MODES & MODE_AGAIN) && argc == 3 && strcmp(mode, "again") == 0 &&
+             number_in(argv[2], 0, INT64_MAX, &n))
+        again(n);
+    else if ((MODES & MODE_STORE) && argc == 4 && strcmp(mode, "store") == 0 &&
+             number_in(argv[2], 1, MAX_SIZE, &first) && number_in(argv[3], 0, INT64_MAX, &n))
         store_pairs((size_t)first, n);
     else
         return usage();
