@@ -156,22 +156,22 @@ waits-singly (suc n) f h w = go (departed (h .state) .reply) (still-after n (h .
 
 -- ---- calls one after the other
 
-chain-append : (h : History) (a b : List Call) → chain h (a ++ b) ≡ chain (chain h a) b
+pub chain-append : (h : History) (a b : List Call) → chain h (a ++ b) ≡ chain (chain h a) b
 unfolding chain
 chain-append h [] b = refl
 chain-append h (c ∷ a) b = chain-append (next h c) a b
 
-sent-append : (h : History) (a b : List Call) → sentIn h (a ++ b) ≡ sentIn h a ++ sentIn (chain h a) b
+pub sent-append : (h : History) (a b : List Call) → sentIn h (a ++ b) ≡ sentIn h a ++ sentIn (chain h a) b
 unfolding chain sentIn
 sent-append h [] b = refl
 sent-append h (c ∷ a) b = ap (λ (l : List Sent). leaving (h .state) c ++ l) (sent-append (next h c) a b) ∙ sym (append-assoc (leaving (h .state) c) (sentIn (next h c) a) _)
 
-turns-append : (h : History) (a b : List Call) → turnsIn h (a ++ b) ≡ turnsIn h a ++ turnsIn (chain h a) b
+pub turns-append : (h : History) (a b : List Call) → turnsIn h (a ++ b) ≡ turnsIn h a ++ turnsIn (chain h a) b
 unfolding chain turnsIn
 turns-append h [] b = refl
 turns-append h (c ∷ a) b = ap (λ (l : List Sent). completing (h .state) c ++ l) (turns-append (next h c) a b) ∙ sym (append-assoc (completing (h .state) c) (turnsIn (next h c) a) _)
 
-waiting-append : (f : ℕ) (h : History) (a b : List Call) → WaitingAfterEvery f h a → WaitingAfterEvery f (chain h a) b → WaitingAfterEvery f h (a ++ b)
+pub waiting-append : (f : ℕ) (h : History) (a b : List Call) → WaitingAfterEvery f h a → WaitingAfterEvery f (chain h a) b → WaitingAfterEvery f h (a ++ b)
 unfolding chain WaitingAfterEvery
 waiting-append f h [] b u v = v
 waiting-append f h (c ∷ a) b u v = (u .0, waiting-append f (next h c) a b (u .1) v)

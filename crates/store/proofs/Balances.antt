@@ -215,7 +215,7 @@ module _ (s : Scheduler) (R : Rules s) (store : List ℕ) (whole : length store 
   abbrev departMade : AfterDeparture
   departMade = storeDepart s (lent n store) out
 
-  none-taken : (o : AfterDeparture) → sentBy (o .reply) ≡ [] → taken o ≡ []
+  pub none-taken : (o : AfterDeparture) → sentBy (o .reply) ≡ [] → taken o ≡ []
   unfolding taken
   none-taken o e = ap (map (λ (d : Sent). record { flow = d .flow; bytes = take (d .size) (o .out) })) e
 
@@ -234,7 +234,7 @@ module _ (s : Scheduler) (R : Rules s) (store : List ℕ) (whole : length store 
     whole-lent : lent n store ≡ store
     whole-lent = lent-whole n store (omega (arith, lent-length n store, departs s (lent n store) out z .0))
 
-    as-many-held : length (firstHeld s store d) ≡ d .size
+    pub as-many-held : length (firstHeld s store d) ≡ d .size
     as-many-held =
         held-length store (d .flow) (flowAt s (d .flow) .slot) (d .size) whole (first-leaves .in-reach) (R .flow-rules (d .flow) .slot-in-range) size-small
 
@@ -244,7 +244,7 @@ module _ (s : Scheduler) (R : Rules s) (store : List ℕ) (whole : length store 
         ∙ ap (λ (l : List ℕ). take (d .size) (firstHeld s l d ++ drop (d .size) out)) whole-lent
         ∙ take-at (firstHeld s store d) (drop (d .size) out) (d .size) as-many-held
 
-    first-taken : taken departMade ≡ record { flow = d .flow; bytes = firstHeld s store d } ∷ []
+    pub first-taken : taken departMade ≡ record { flow = d .flow; bytes = firstHeld s store d } ∷ []
     first-taken =
         one-taken departMade d (depart-made s (lent n store) out z .2 ∙ e)
         ∙ ap (λ (b : List ℕ). record { flow = d .flow; bytes = b } ∷ []) first-sent

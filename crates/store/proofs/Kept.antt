@@ -35,7 +35,7 @@ unfolding start bytesOf
 start-kept store whole = record { rules = new-keeps; whole = whole; kept = λ f. sym (new-waits-for-nothing store f) }
 
 -- Every call keeps it.
-next-kept : (h : History) (c : StoreCall) → Kept h → Kept (next h c)
+pub next-kept : (h : History) (c : StoreCall) → Kept h → Kept (next h c)
 unfolding next stateAfter storeAfter accepting leaving bytesOf
 next-kept h resetting K = record { rules = new-keeps; whole = K .whole; kept = λ f. sym (new-waits-for-nothing (h .store) f) }
 next-kept h (opening f weight) K =

@@ -31,7 +31,7 @@ offer-asked-first s f size = by (offerRefusal f size (flowAt s f)) _
     by (suc n) t = refl
 
 -- One call.
-on-sizes-once : (c : StoreCall) (store : List ℕ) (k : SizeCall.History) → stateAfter (k .state) store c ≡ SizeCall.chain k (onSizes c) .state
+pub on-sizes-once : (c : StoreCall) (store : List ℕ) (k : SizeCall.History) → stateAfter (k .state) store c ≡ SizeCall.chain k (onSizes c) .state
 unfolding stateAfter onSizes SizeCall.chain SizeCall.next SizeCall.after storeOffer storeDepart
 on-sizes-once resetting store k = refl
 on-sizes-once (opening f weight) store k = refl
