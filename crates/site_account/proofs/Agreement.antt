@@ -38,12 +38,55 @@ module _ (x : SiteStretch) where
       × (sized (ended x .left) ≡ packetsOf (SizeStretch.ended (asCalls x) .left))
   departures-agree = (goes-beside .sent-agree, goes-beside .ends .same-left)
 
-  -- The same numbers, and the same flows wait; so what holds of the one stretch holds of the other.
-  pub record SameNumbers : Type 0 where
-    pub bytes-same : (f : ℕ) → bytesSent x f ≡ SizeStretch.bytesSent (asCalls x) f
-    pub largest-same : largestSinceReset x ≡ SizeStretch.largestSinceReset (asCalls x)
-    pub marks-same : (f : ℕ) → onePlusMarks x f ≡ SizeStretch.onePlusMarks (asCalls x) f
-    pub weight-same : (f : ℕ) → weightOf x f ≡ SizeStretch.weightOf (asCalls x) f
-    pub before-same : (f : ℕ) → surplusBefore x f ≡ SizeStretch.surplusBefore (asCalls x) f
-    pub after-same : (f : ℕ) → surplusAfter x f ≡ SizeStretch.surplusAfter (asCalls x) f
-    pub count-same : length (sentIn (begun x) (x .calls)) ≡ length (SizeStretch.sentIn (SizeStretch.begun (asCalls x)) (asCalls x .calls))
+-- Bytes, largest packet, marks, weights and surpluses are those of the order layer's stretch, and so is the number of packets sent.
+pub record SameNumbers (x : SiteStretch) : Type 0 where
+  pub bytes-same : (f : ℕ) → bytesSent x f ≡ SizeStretch.bytesSent (asCalls x) f
+  pub largest-same : largestSinceReset x ≡ SizeStretch.largestSinceReset (asCalls x)
+  pub marks-same : (f : ℕ) → onePlusMarks x f ≡ SizeStretch.onePlusMarks (asCalls x) f
+  pub weight-same : (f : ℕ) → weightOf x f ≡ SizeStretch.weightOf (asCalls x) f
+  pub before-same : (f : ℕ) → surplusBefore x f ≡ SizeStretch.surplusBefore (asCalls x) f
+  pub after-same : (f : ℕ) → surplusAfter x f ≡ SizeStretch.surplusAfter (asCalls x) f
+  pub count-same : length (sentIn (begun x) (x .calls)) ≡ length (SizeStretch.sentIn (SizeStretch.begun (asCalls x)) (asCalls x .calls))
+
+-- A stretch of store calls has the numbers of the order layer's, whose closed stretches are therefore stretches of store calls too.
+pub same-numbers : (x : SiteStretch) → SameNumbers x
+same-numbers x =
+    let told : List Sent = SizeStretch.sentIn (SizeStretch.begun (asCalls x)) (asCalls x .calls) in
+    record {
+      bytes-same = same-bytes (sentIn (begun x) (x .calls)) told (departures-agree x .0);
+      largest-same = same-longest (ended x .left) (SizeStretch.ended (asCalls x) .left) (departures-agree x .1);
+      marks-same = λ f. ap (sumOf f onePlusMark) (goes-beside x .turns-agree);
+      weight-same = λ f. ap (λ (s : Scheduler). flowAt s f .weight) (begun-beside x .same-state);
+      before-same = λ f. ap (λ (s : Scheduler). flowAt s f .surplus) (begun-beside x .same-state);
+      after-same = λ f. ap (λ (s : Scheduler). flowAt s f .surplus) (goes-beside x .ends .same-state);
+      count-same = same-count (sentIn (begun x) (x .calls)) told (departures-agree x .0);
+    }
+
+-- ---- who waits, and between which turns
+
+module _ (x : SiteStretch) (f : ℕ) where
+  -- A flow that waits throughout the one stretch waits throughout the other.
+  pub waits-on-sizes : WaitingThroughout x f → SizeStretch.WaitingThroughout (asCalls x) f
+  waits-on-sizes w = (subst (λ (s : Scheduler). Waiting s f) (begun-beside x .same-state) (w .0), goes-beside x .waiting-on-sizes f (w .1))
+
+  pub waits-in-store : SizeStretch.WaitingThroughout (asCalls x) f → WaitingThroughout x f
+  waits-in-store w =
+      let first : Waiting (begun x .state) f = subst (λ (s : Scheduler). Waiting s f) (sym (begun-beside x .same-state)) (w .0) in
+      (first, goes-beside x .waiting-in-store f first (w .1))
+
+  pub turns-on-sizes : ConsecutiveTurns x f → SizeStretch.ConsecutiveTurns (asCalls x) f
+  turns-on-sizes turns =
+      record {
+        before-the-first = λ allowed sent e. turns .before-the-first allowed sent (ap (λ (s : Scheduler). s .round .turn) (begun-beside x .same-state) ∙ e);
+        after-the-last = λ allowed sent e. turns .after-the-last allowed sent (ap (λ (s : Scheduler). s .round .turn) (goes-beside x .ends .same-state) ∙ e);
+        waiting-after-every = goes-beside x .waiting-on-sizes f (turns .waiting-after-every);
+      }
+
+  -- Back again for a flow that waits before the stretch too: a store call that is refused for what is lent is no call of the order layer.
+  pub turns-in-store : Waiting (SizeStretch.begun (asCalls x) .state) f → SizeStretch.ConsecutiveTurns (asCalls x) f → ConsecutiveTurns x f
+  turns-in-store first turns =
+      record {
+        before-the-first = λ allowed sent e. turns .before-the-first allowed sent (ap (λ (s : Scheduler). s .round .turn) (sym (begun-beside x .same-state)) ∙ e);
+        after-the-last = λ allowed sent e. turns .after-the-last allowed sent (ap (λ (s : Scheduler). s .round .turn) (sym (goes-beside x .ends .same-state)) ∙ e);
+        waiting-after-every = waits-in-store (first, turns .waiting-after-every) .1;
+      }

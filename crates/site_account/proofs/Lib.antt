@@ -1,3 +1,4 @@
 pub mod Packets
 pub mod Beside
 pub mod Agreement
+pub mod Theorems
