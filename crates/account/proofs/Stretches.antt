@@ -18,7 +18,7 @@ use Rattle.account.proofs.Within.{Within, within-more, run-stays-within
 use Rattle.account.proofs.Sums.{largest-append}
 
 -- After a reset nobody waits, so a call after which a flow waits is none.
-nobody-waits : (f : ℕ) → Waits (flowAt newScheduler f) → ⊥
+pub nobody-waits : (f : ℕ) → Waits (flowAt newScheduler f) → ⊥
 nobody-waits f w = absurd (omega (arith, w, ap (λ (x : Flow). length (x .queue)) (new-closed f)))
 
 no-reset : (s : Scheduler) (f : ℕ) (c : Call) → Waits (flowAt (after s c) f) → c ≡ resetting → ⊥

@@ -1,11 +1,9 @@
 -- A stretch of store calls has the numbers of the order layer's stretch of the same offers and departures.
-use Prim.Native.Nat.{ℕ, _≤_}
+use Prim.Native.Nat.{ℕ}
 use mathlib.Core.Path.{_≡_, refl, sym, ap, _∙_, subst}
 use mathlib.Core.List.{List, []}
-use native.Mathlib.Omega.{arith}
 use lib.ListN.{length}
 use Rattle.err.specs.Model.{Scheduler, flowAt}
-use Rattle.err.specs.Chain.{packetsOf}
 use Rattle.err.specs.Chain as SizeCall
 use Rattle.err.specs.declared.Sent.{Sent}
 use Rattle.account.specs.Stretch.{Stretch, Waiting, sumOf, onePlusMark}
@@ -13,8 +11,8 @@ use Rattle.account.specs.Stretch as SizeStretch
 use Rattle.store.specs.Slots.{storeLength}
 use Rattle.store.specs.Chain.{start, chain, allOnSizes}
 use Rattle.store.proofs.Kept.{every-history-kept}
-use Rattle.site_account.specs.SiteStretch.{SiteStretch, begun, ended, WaitingAfterEvery, WaitingThroughout, sentIn, SomethingSent, bytesSent, largestSinceReset, onePlusMarks, ConsecutiveTurns, weightOf, surplusBefore, surplusAfter}
-use Rattle.site_account.proofs.Packets.{sized, same-bytes, same-longest, same-count}
+use Rattle.site_account.specs.SiteStretch.{SiteStretch, begun, ended, WaitingThroughout, sentIn, bytesSent, largestSinceReset, onePlusMarks, ConsecutiveTurns, weightOf, surplusBefore, surplusAfter}
+use Rattle.site_account.proofs.Packets.{same-bytes, same-longest, same-count}
 use Rattle.site_account.proofs.Beside.{Beside, GoBeside, go-beside}
 
 -- The calls of the order layer that the store calls of a stretch make; a call that is refused for what is lent makes none.
@@ -29,14 +27,8 @@ module _ (x : SiteStretch) where
   begun-beside : Beside (begun x) (SizeStretch.begun (asCalls x))
   begun-beside = go-beside (x .before) (start (x .first)) SizeCall.start (start-beside (x .first) (x .whole)) .ends
 
-  goes-beside : GoBeside (begun x) (x .calls) (SizeStretch.begun (asCalls x)) (asCalls x .calls)
+  pub goes-beside : GoBeside (begun x) (x .calls) (SizeStretch.begun (asCalls x)) (asCalls x .calls)
   goes-beside = go-beside (x .calls) (begun x) (SizeStretch.begun (asCalls x)) begun-beside
-
-  -- The packets that leave in a stretch of store calls have, in order, the flows and the lengths that the order layer's departures tell, and so have
-  -- those that have left since the last reset.
-  pub departures-agree : (sized (sentIn (begun x) (x .calls)) ≡ packetsOf (SizeStretch.sentIn (SizeStretch.begun (asCalls x)) (asCalls x .calls)))
-      × (sized (ended x .left) ≡ packetsOf (SizeStretch.ended (asCalls x) .left))
-  departures-agree = (goes-beside .sent-agree, goes-beside .ends .same-left)
 
 -- Bytes, largest packet, marks, weights and surpluses are those of the order layer's stretch, and so is the number of packets sent.
 pub record SameNumbers (x : SiteStretch) : Type 0 where
@@ -53,13 +45,13 @@ pub same-numbers : (x : SiteStretch) → SameNumbers x
 same-numbers x =
     let told : List Sent = SizeStretch.sentIn (SizeStretch.begun (asCalls x)) (asCalls x .calls) in
     record {
-      bytes-same = same-bytes (sentIn (begun x) (x .calls)) told (departures-agree x .0);
-      largest-same = same-longest (ended x .left) (SizeStretch.ended (asCalls x) .left) (departures-agree x .1);
+      bytes-same = same-bytes (sentIn (begun x) (x .calls)) told (goes-beside x .sent-agree);
+      largest-same = same-longest (ended x .left) (SizeStretch.ended (asCalls x) .left) (goes-beside x .ends .same-left);
       marks-same = λ f. ap (sumOf f onePlusMark) (goes-beside x .turns-agree);
       weight-same = λ f. ap (λ (s : Scheduler). flowAt s f .weight) (begun-beside x .same-state);
       before-same = λ f. ap (λ (s : Scheduler). flowAt s f .surplus) (begun-beside x .same-state);
       after-same = λ f. ap (λ (s : Scheduler). flowAt s f .surplus) (goes-beside x .ends .same-state);
-      count-same = same-count (sentIn (begun x) (x .calls)) told (departures-agree x .0);
+      count-same = same-count (sentIn (begun x) (x .calls)) told (goes-beside x .sent-agree);
     }
 
 -- ---- who waits, and between which turns

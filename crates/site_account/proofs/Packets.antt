@@ -1,6 +1,6 @@
 -- Packets without their bytes: the flows and the lengths are all that the numbers of demand 3 are made of.
 use Prim.Native.Nat.{ℕ, _+_, max}
-use mathlib.Core.Path.{_≡_, refl, sym, ap, ap₂, _∙_}
+use mathlib.Core.Path.{_≡_, refl, sym, ap, _∙_}
 use mathlib.Core.List.{List, [], _∷_, _++_, map}
 use mathlib.Core.Bool.{Bool, true, false, cond}
 use native.Mathlib.Omega.{arith}

@@ -1,13 +1,34 @@
 -- Demand 3 over store calls. The account balances, whichever store calls come and whatever is lent; hence two flows that both have packets waiting
 -- share the link by their weights, counted in the bytes that left.
-use Prim.Native.Nat.{ℕ, _+_, _*_, _-_, _≤_}
-use mathlib.Core.Path.{_≡_, sym}
+use Prim.Native.Nat.{ℕ, _+_, _*_, _-_}
+use mathlib.Core.Path.{_≡_, subst}
+use mathlib.Core.List.{List, [], _∷_}
 use native.Mathlib.Omega.{arith}
-use lib.ListN.{length}
-use Rattle.account.specs.Stretch.{DifferByAtMost, DifferByLessThan}
+use Rattle.err.specs.Chain.{packetsOf}
+use Rattle.account.specs.Stretch.{Waiting, DifferByAtMost, DifferByLessThan}
+use Rattle.account.specs.Stretch as SizeStretch
+use Rattle.account.proofs.Stretches.{nobody-waits}
 use Rattle.account.proofs.Theorems.{account, exact-bound, pair-bound}
-use Rattle.site_account.specs.SiteStretch.{SiteStretch, WaitingThroughout, SomethingSent, bytesSent, largestSinceReset, onePlusMarks, ConsecutiveTurns, weightOf, surplusBefore, surplusAfter}
-use Rattle.site_account.proofs.Agreement.{asCalls, SameNumbers, same-numbers, waits-on-sizes, turns-on-sizes}
+use Rattle.store.specs.Chain.{StoreCall, stateAfter, History, next}
+use Rattle.site_account.specs.SiteStretch.{SiteStretch, begun, ended, sentIn, WaitingAfterEvery, WaitingThroughout, WithoutReset, SomethingSent, bytesSent, largestSinceReset, onePlusMarks, ConsecutiveTurns, weightOf, surplusBefore, surplusAfter}
+use Rattle.site_account.proofs.Packets.{sized}
+use Rattle.site_account.proofs.Agreement.{asCalls, goes-beside, same-numbers, waits-on-sizes, turns-on-sizes}
+
+-- The packets that leave over any store calls have, in order, the flows and the lengths that the order layer's departures tell over the same offers and
+-- departures, and so have those that have left since the last reset.
+pub departures-agree : (x : SiteStretch)
+    → (sized (sentIn (begun x) (x .calls)) ≡ packetsOf (SizeStretch.sentIn (SizeStretch.begun (asCalls x)) (asCalls x .calls)))
+    × (sized (ended x .left) ≡ packetsOf (SizeStretch.ended (asCalls x) .left))
+departures-agree x = (goes-beside x .sent-agree, goes-beside x .ends .same-left)
+
+-- No call of a stretch is a reset, if a flow waits after every one.
+pub no-reset-while-waiting : (f : ℕ) (h : History) (calls : List StoreCall) → WaitingAfterEvery f h calls → WithoutReset calls
+unfolding WaitingAfterEvery WithoutReset next stateAfter
+no-reset-while-waiting f h [] w = tt
+no-reset-while-waiting f h (c ∷ calls) w = (
+  λ e. nobody-waits f (subst (λ (d : StoreCall). Waiting (next h d .state) f) e (w .0)),
+  no-reset-while-waiting f (next h c) calls (w .1),
+)
 
 -- ---- equal numbers balance alike and lie as close
 

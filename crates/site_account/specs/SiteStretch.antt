@@ -35,6 +35,11 @@ WaitingAfterEvery f h (c ∷ calls) = Waiting (next h c .state) f × WaitingAfte
 abbrev pub WaitingThroughout : SiteStretch → ℕ → Type 0
 WaitingThroughout x f = Waiting (begun x .state) f × WaitingAfterEvery f (begun x) (x .calls)
 
+-- No call is a reset. Of a stretch in which a flow has a packet waiting after every call this is proved, and so the theorems do not ask for it.
+unfoldable pub WithoutReset : List StoreCall → Type 0
+WithoutReset [] = Unit {0}
+WithoutReset (c ∷ calls) = (c ≡ resetting → ⊥) × WithoutReset calls
+
 -- ---- what is sent
 
 -- The packets that leave, in order, with their bytes.
