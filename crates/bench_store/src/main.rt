@@ -1,0 +1,87 @@
+// The loop `store` of bench/plain/README.md: one packet into the store and one out of it.
+ghost use Prim.Native.Nat.{_≤_, _<_};
+ghost use Rattle.store.specs.Promised.{SoundSite};
+use err::Reply;
+use err::SIZE_LIMIT;
+use loops::sums;
+use loops::words;
+use store::Site;
+
+const FLOWS: usize = 4;
+
+fn opened() -> Site
+    ensures { λ s. ⌜ SoundSite s ⌝ }
+{
+    let mut site = Site::new();
+    let mut f = 0;
+    while f < FLOWS {
+        let asked = site.open(f, 1);
+        site = asked.site;
+        f += 1;
+    }
+    site
+}
+
+// Byte j is (j × 7) mod 256.
+fn filled() -> [u8; SIZE_LIMIT] {
+    let mut packet = [0u8; SIZE_LIMIT];
+    let mut j = 0;
+    while j < SIZE_LIMIT {
+        packet[j] = (j * 7 % 256) as u8;
+        j += 1;
+    }
+    packet
+}
+
+// The departure, and the first and the last byte of its packet.
+fn replied(check: u32, reply: Reply, out: &[u8; SIZE_LIMIT]) -> u32
+    requires { ⌜ check < 1000003 ⌝ }
+    ensures { λ r. ⌜ r < 1000003 ⌝ }
+{
+    let told = sums::replied(check, reply);
+    if let Reply::Departure(d) = reply {
+        let last = std::num::wrapping_sub_u16(d.size, 1) % 256;
+        sums::fold(sums::fold(told, out[0] as u16), out[last as usize] as u16)
+    } else {
+        told
+    }
+}
+
+fn pairs(length: usize, n: u64) -> u32
+    requires { ⌜ (0 < length) × (length ≤ 256) ⌝ }
+{
+    let mut site = opened();
+    let mut packet = filled();
+    let mut store = io::large_buffer();
+    let mut out = [0u8; SIZE_LIMIT];
+    let mut check: u32 = 0;
+    let mut i: u64 = 0;
+    while i < n {
+        packet[0] = (i % 256) as u8;
+        packet[length - 1] = ((i + 1) % 256) as u8;
+        let asked = site.offer((i % 4) as usize, &packet[..length], &mut store);
+        let answer = asked.answer;
+        // each site goes into a local of its own, which spares a copy of it
+        let offered = asked.site;
+        let left = offered.depart(&store, &mut out);
+        let reply = left.reply;
+        site = left.site;
+        check = replied(sums::answered(check, answer), reply, &out);
+        i += 1;
+    }
+    check
+}
+
+fn main() {
+    let length = words::number(1, SIZE_LIMIT as u64) as usize;
+    let n = words::number(2, words::RUN_LIMIT);
+    if os::arg_count() == 3 {
+        if 0 < length {
+            if 0 < n {
+                words::show(pairs(length, n));
+                return;
+            }
+        }
+    }
+    words::usage(b"usage: bench_store LEN N   LEN from 1 to 256, N from 1\n");
+}

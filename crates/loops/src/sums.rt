@@ -1,0 +1,58 @@
+// The checksum of what the calls reply.
+ghost use Prim.Native.Nat.{_<_};
+use err::Answer;
+use err::Count;
+use err::Reply;
+use err::Sent;
+
+// What a departure call that finds nothing folds.
+const IDLE: u16 = 7777;
+
+// Takes one number in. The checksum stays below a million and three, so that nothing here overflows.
+pub fn fold(check: u32, v: u16) -> u32
+    requires { ⌜ check < 1000003 ⌝ }
+    ensures { λ r. ⌜ r < 1000003 ⌝ }
+{
+    (check * 31 + v as u32) % 1000003
+}
+
+// An answer of open or offer: the refusal's number, or 0.
+pub fn answered(check: u32, answer: Answer) -> u32
+    requires { ⌜ check < 1000003 ⌝ }
+    ensures { λ r. ⌜ r < 1000003 ⌝ }
+{
+    match answer {
+        Answer::Done => fold(check, 0),
+        Answer::Refused(k) => fold(check, k as u16),
+    }
+}
+
+pub fn departed(check: u32, d: Sent) -> u32
+    requires { ⌜ check < 1000003 ⌝ }
+    ensures { λ r. ⌜ r < 1000003 ⌝ }
+{
+    let sized = fold(fold(check, d.flow as u16), d.size);
+    fold(fold(sized, d.mark), d.allowance)
+}
+
+pub fn replied(check: u32, reply: Reply) -> u32
+    requires { ⌜ check < 1000003 ⌝ }
+    ensures { λ r. ⌜ r < 1000003 ⌝ }
+{
+    match reply {
+        Reply::Departure(d) => departed(check, d),
+        Reply::Idle => fold(check, IDLE),
+        Reply::Refused(k) => fold(check, k as u16),
+    }
+}
+
+// How many departures a burst made.
+pub fn counted(check: u32, count: Count) -> u32
+    requires { ⌜ check < 1000003 ⌝ }
+    ensures { λ r. ⌜ r < 1000003 ⌝ }
+{
+    match count {
+        Count::Made(n) => fold(check, (n % 65536) as u16),
+        Count::Refused(k) => fold(check, k as u16),
+    }
+}
