@@ -29,7 +29,7 @@ fn again(n: u64) -> u32 {
     while i < n {
         let sent = full.burst(BURST, &mut list);
         let count = sent.count;
-        check = sums::fold(sums::counted(check, count), list[BURST - 1] as u16);
+        check = sums::fold_byte(sums::counted(check, count), list[BURST - 1]);
         i += 1;
     }
     check

@@ -1,5 +1,7 @@
 // The loop `store` of bench/plain/README.md: one packet into the store and one out of it.
+ghost use mathlib.Core.Path.{_≡_};
 ghost use Prim.Native.Nat.{_≤_, _<_};
+ghost use lib.ListN.{length};
 ghost use Rattle.store.specs.Promised.{SoundSite};
 use err::Reply;
 use err::SIZE_LIMIT;
@@ -23,7 +25,9 @@ fn opened() -> Site
 }
 
 // Byte j is (j × 7) mod 256.
-fn filled() -> [u8; SIZE_LIMIT] {
+fn filled() -> [u8; SIZE_LIMIT]
+    ensures { λ p. ⌜ 256 ≡ length p ⌝ }
+{
     let mut packet = [0u8; SIZE_LIMIT];
     let mut j = 0;
     while j < SIZE_LIMIT {
@@ -41,7 +45,7 @@ fn replied(check: u32, reply: Reply, out: &[u8; SIZE_LIMIT]) -> u32
     let told = sums::replied(check, reply);
     if let Reply::Departure(d) = reply {
         let last = std::num::wrapping_sub_u16(d.size, 1) % 256;
-        sums::fold(sums::fold(told, out[0] as u16), out[last as usize] as u16)
+        sums::fold_byte(sums::fold_byte(told, out[0]), out[last as usize])
     } else {
         told
     }

@@ -16,6 +16,13 @@ pub fn fold(check: u32, v: u16) -> u32
     (check * 31 + v as u32) % 1000003
 }
 
+pub fn fold_byte(check: u32, v: u8) -> u32
+    requires { ⌜ check < 1000003 ⌝ }
+    ensures { λ r. ⌜ r < 1000003 ⌝ }
+{
+    fold(check, v as u16)
+}
+
 // An answer of open or offer: the refusal's number, or 0.
 pub fn answered(check: u32, answer: Answer) -> u32
     requires { ⌜ check < 1000003 ⌝ }
@@ -23,7 +30,7 @@ pub fn answered(check: u32, answer: Answer) -> u32
 {
     match answer {
         Answer::Done => fold(check, 0),
-        Answer::Refused(k) => fold(check, k as u16),
+        Answer::Refused(k) => fold_byte(check, k),
     }
 }
 
@@ -31,7 +38,7 @@ pub fn departed(check: u32, d: Sent) -> u32
     requires { ⌜ check < 1000003 ⌝ }
     ensures { λ r. ⌜ r < 1000003 ⌝ }
 {
-    let sized = fold(fold(check, d.flow as u16), d.size);
+    let sized = fold(fold_byte(check, d.flow), d.size);
     fold(fold(sized, d.mark), d.allowance)
 }
 
@@ -42,7 +49,7 @@ pub fn replied(check: u32, reply: Reply) -> u32
     match reply {
         Reply::Departure(d) => departed(check, d),
         Reply::Idle => fold(check, IDLE),
-        Reply::Refused(k) => fold(check, k as u16),
+        Reply::Refused(k) => fold_byte(check, k),
     }
 }
 
@@ -53,6 +60,6 @@ pub fn counted(check: u32, count: Count) -> u32
 {
     match count {
         Count::Made(n) => fold(check, (n % 65536) as u16),
-        Count::Refused(k) => fold(check, k as u16),
+        Count::Refused(k) => fold_byte(check, k),
     }
 }
