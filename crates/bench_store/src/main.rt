@@ -51,8 +51,8 @@ fn replied(check: u32, reply: Reply, out: &[u8; SIZE_LIMIT]) -> u32
     }
 }
 
-fn pairs(length: usize, n: u64) -> u32
-    requires { ⌜ (0 < length) × (length ≤ 256) ⌝ }
+fn pairs(size: usize, n: u64) -> u32
+    requires { ⌜ (0 < size) × (size ≤ 256) ⌝ }
 {
     let mut site = opened();
     let mut packet = filled();
@@ -61,9 +61,10 @@ fn pairs(length: usize, n: u64) -> u32
     let mut check: u32 = 0;
     let mut i: u64 = 0;
     while i < n {
+        let next = i + 1;
         packet[0] = (i % 256) as u8;
-        packet[length - 1] = ((i + 1) % 256) as u8;
-        let asked = site.offer((i % 4) as usize, &packet[..length], &mut store);
+        packet[size - 1] = (next % 256) as u8;
+        let asked = site.offer((i % 4) as usize, &packet[..size], &mut store);
         let answer = asked.answer;
         // each site goes into a local of its own, which spares a copy of it
         let offered = asked.site;
@@ -71,18 +72,18 @@ fn pairs(length: usize, n: u64) -> u32
         let reply = left.reply;
         site = left.site;
         check = replied(sums::answered(check, answer), reply, &out);
-        i += 1;
+        i = next;
     }
     check
 }
 
 fn main() {
-    let length = words::number(1, SIZE_LIMIT as u64) as usize;
+    let size = words::number(1, SIZE_LIMIT as u64) as usize;
     let n = words::number(2, words::RUN_LIMIT);
     if os::arg_count() == 3 {
-        if 0 < length {
+        if 0 < size {
             if 0 < n {
-                words::show(pairs(length, n));
+                words::show(pairs(size, n));
                 return;
             }
         }

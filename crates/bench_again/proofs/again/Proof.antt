@@ -1,3 +1,4 @@
+-- The full state is sound, the list keeps its length, and the checksum stays small.
 use Prim.Native.Nat.{_-_, _<_}
 use mathlib.Core.Path.{_≡_}
 use lib.ListN.{length}

@@ -1,6 +1,7 @@
+-- Every offer is made on a sound state.
 use Prim.Native.Nat.{_-_}
-use Rattle.order.specs.Encoding.{Sound}
 use borrow.Author.Needs.{needs}
+use Rattle.order.specs.Encoding.{Sound}
 use Rattle.bench_again.proofs.filled.Statement.{statement}
 use Rattle.bench_again.proofs.filled.Tie as tie
 

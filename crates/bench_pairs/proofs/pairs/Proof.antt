@@ -1,6 +1,7 @@
+-- Every call is made on a sound state, and the checksum stays small.
 use Prim.Native.Nat.{_-_, _<_}
-use Rattle.order.specs.Encoding.{Sound}
 use borrow.Author.Needs.{needs}
+use Rattle.order.specs.Encoding.{Sound}
 use Rattle.bench_pairs.proofs.pairs.Statement.{statement}
 use Rattle.bench_pairs.proofs.pairs.Tie as tie
 

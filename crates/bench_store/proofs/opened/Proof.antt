@@ -1,6 +1,7 @@
+-- Every open is made on a sound site.
 use Prim.Native.Nat.{_-_}
-use Rattle.store.specs.Promised.{SoundSite}
 use borrow.Author.Needs.{needs}
+use Rattle.store.specs.Promised.{SoundSite}
 use Rattle.bench_store.proofs.opened.Statement.{statement}
 use Rattle.bench_store.proofs.opened.Tie as tie
 

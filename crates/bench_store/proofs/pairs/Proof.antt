@@ -1,112 +1,85 @@
+-- Every call is made on a sound site, buffers keep their lengths, and the checksum stays small.
+use Prim.Native.Nat.{_-_, _<_}
+use mathlib.Core.Path.{_≡_}
+use native.Mathlib.Omega.{arith}
+use lib.ListN.{length}
+use borrow.Author.Needs.{needs}
+use Rattle.store.specs.Promised.{SoundSite}
+use Rattle.bench_store.proofs.Marked.{within, as-many}
 use Rattle.bench_store.proofs.pairs.Statement.{statement}
 use Rattle.bench_store.proofs.pairs.Tie as tie
-use Rattle.bench_store.proofs.pairs.Reads as reads
-use Rattle.bench_store.proofs.pairs.Lts as lts
-use Rattle.bench_store.proofs.filled.Reads as filled-reads
-use Rattle.bench_store.proofs.opened.Reads as opened-reads
-use Rattle.bench_store.proofs.replied.Reads as replied-reads
-use Rattle.io.proofs.large_buffer.Reads as large-buffer-reads
-use Rattle.loops.proofs.sums.answered.Reads as answered-reads
-use Rattle.store.proofs.Site.depart.Reads as depart-reads
-use Rattle.store.proofs.Site.offer.Reads as offer-reads
 
 abbrev Inv-loop : tie.InvT-loop
-Inv-loop length n site₀ packet₀ store₀ out₀ check₀ i₀ site packet store out check i = ?
+Inv-loop size n site₀ packet₀ store₀ out₀ check₀ i₀ site packet store out check i = SoundSite site × (256 ≡ length packet) × (65536 ≡ length store) × (256 ≡ length out) × (check < 1000003)
 
 abbrev μ-loop : tie.MeasureT-loop
-μ-loop length n site₀ packet₀ store₀ out₀ check₀ i₀ site packet store out check i = ?
+μ-loop size n site₀ packet₀ store₀ out₀ check₀ i₀ site packet store out check i = n - i
 
--- src/main.rt:57:9
 opened-requires : tie.Need-opened-requires Inv-loop μ-loop
-opened-requires c κs = ?
+opened-requires c κs = search needs
 
--- src/main.rt:58:22
 filled-requires : tie.Need-filled-requires Inv-loop μ-loop
-filled-requires c κs = ?
+filled-requires c κs = search needs
 
--- src/main.rt:59:21
 large-buffer-requires : tie.Need-large-buffer-requires Inv-loop μ-loop
-large-buffer-requires c κs = ?
+large-buffer-requires c κs = search needs
 
--- src/main.rt:63:5
 loop-holds : tie.Need-loop-holds Inv-loop μ-loop
-loop-holds c = ?
+loop-holds c = search needs
 
--- src/main.rt:64:21
+add-next : tie.Need-add-next Inv-loop μ-loop
+add-next c = search needs
+
 cast-packet : tie.Need-cast-packet Inv-loop μ-loop
-cast-packet c = ?
+cast-packet c = search needs
 
--- src/main.rt:64:9
 array-write-packet : tie.Need-array-write-packet Inv-loop μ-loop
-array-write-packet c = ?
+array-write-packet c = search needs
 
--- src/main.rt:65:32
-add-packet : tie.Need-add-packet Inv-loop μ-loop
-add-packet c = ?
-
--- src/main.rt:65:30
 cast-packet-2 : tie.Need-cast-packet-2 Inv-loop μ-loop
-cast-packet-2 c = ?
+cast-packet-2 c = search needs
 
--- src/main.rt:65:16
 sub-packet : tie.Need-sub-packet Inv-loop μ-loop
-sub-packet c = ?
+sub-packet c = search needs
 
--- src/main.rt:65:9
 array-write-packet-2 : tie.Need-array-write-packet-2 Inv-loop μ-loop
-array-write-packet-2 c = ?
+array-write-packet-2 c = search needs
 
--- src/main.rt:66:50
 array-share-prefix-packet : tie.Need-array-share-prefix-packet Inv-loop μ-loop
-array-share-prefix-packet c = ?
+array-share-prefix-packet c = within _ (c .before .loop .packet) _ _ _ _ (omega arith)
 
--- src/main.rt:66:50
 slice-aggregate-offer : tie.Need-slice-aggregate-offer Inv-loop μ-loop
-slice-aggregate-offer c = ?
+slice-aggregate-offer c = as-many _ (c .before .before .loop .packet) _ _ _ _ (omega arith)
 
--- src/main.rt:66:69
 slice-aggregate-offer-2 : tie.Need-slice-aggregate-offer-2 Inv-loop μ-loop
-slice-aggregate-offer-2 c = ?
+slice-aggregate-offer-2 c = search needs
 
--- src/main.rt:66:13
 offer-requires : tie.Need-offer-requires Inv-loop μ-loop
-offer-requires c κs = ?
+offer-requires c κs = search needs
 
--- src/main.rt:70:35
 slice-aggregate-depart : tie.Need-slice-aggregate-depart Inv-loop μ-loop
-slice-aggregate-depart c = ?
+slice-aggregate-depart c = search needs
 
--- src/main.rt:70:43
 slice-aggregate-depart-2 : tie.Need-slice-aggregate-depart-2 Inv-loop μ-loop
-slice-aggregate-depart-2 c = ?
+slice-aggregate-depart-2 c = search needs
 
--- src/main.rt:70:13
 depart-requires : tie.Need-depart-requires Inv-loop μ-loop
-depart-requires c κs = ?
+depart-requires c κs = search needs
 
--- src/main.rt:73:25
 answered-requires : tie.Need-answered-requires Inv-loop μ-loop
-answered-requires c κs = ?
+answered-requires c κs = search needs
 
--- src/main.rt:73:9
 replied-requires : tie.Need-replied-requires Inv-loop μ-loop
-replied-requires c κs = ?
+replied-requires c κs = search needs
 
--- src/main.rt:74:9
-add-i : tie.Need-add-i Inv-loop μ-loop
-add-i c = ?
-
--- src/main.rt:63:5
 loop-less : tie.Need-loop-less Inv-loop μ-loop
-loop-less c = ?
+loop-less c = search needs
 
--- src/main.rt:63:5
 loop-again : tie.Need-loop-again Inv-loop μ-loop
-loop-again c = ?
+loop-again c = search needs
 
--- src/main.rt:54:1
 returns : tie.Need-returns Inv-loop μ-loop
-returns c = ?
+returns c = search needs
 
 pub pairs-spec : {M : Type 1} → statement M
 pairs-spec =
@@ -118,9 +91,9 @@ pairs-spec =
     filled-requires
     large-buffer-requires
     loop-holds
+    add-next
     cast-packet
     array-write-packet
-    add-packet
     cast-packet-2
     sub-packet
     array-write-packet-2
@@ -133,7 +106,6 @@ pairs-spec =
     depart-requires
     answered-requires
     replied-requires
-    add-i
     loop-less
     loop-again
     returns)

@@ -1,6 +1,7 @@
+-- Every open is made on a sound state.
 use Prim.Native.Nat.{_-_}
-use Rattle.order.specs.Encoding.{Sound}
 use borrow.Author.Needs.{needs}
+use Rattle.order.specs.Encoding.{Sound}
 use Rattle.loops.proofs.opened.Statement.{statement}
 use Rattle.loops.proofs.opened.Tie as tie
 

@@ -1,3 +1,4 @@
+-- A number that may grow by a digit is below a million million.
 use Prim.Native.Nat.{_-_}
 use lib.ListN.{length}
 use borrow.Author.Needs.{needs}
