@@ -30,12 +30,13 @@ fn pairs(flows: usize, n: u64) -> u32
     while i < n {
         let asked = s.offer((i % flows as u64) as usize, loops::size(i));
         let answer = asked.answer;
+        check = sums::answered(check, answer);
         // each state goes into a local of its own, which spares a copy of it
         let offered = asked.state;
         let left = offered.depart();
-        let reply = left.reply;
         s = left.state;
-        check = sums::replied(sums::answered(check, answer), reply);
+        let reply = left.reply;
+        check = sums::replied(check, reply);
         i += 1;
     }
     check

@@ -38,10 +38,7 @@ fn filled() -> [u8; SIZE_LIMIT]
 }
 
 // The departure, and the first and the last byte of its packet.
-fn replied(check: u32, reply: Reply, out: &[u8; SIZE_LIMIT]) -> u32
-    requires { ⌜ check < 1000003 ⌝ }
-    ensures { λ r. ⌜ r < 1000003 ⌝ }
-{
+fn replied(check: u32, reply: Reply, out: &[u8; SIZE_LIMIT]) -> u32 {
     let told = sums::replied(check, reply);
     if let Reply::Departure(d) = reply {
         let last = std::num::wrapping_sub_u16(d.size, 1) % 256;
@@ -66,12 +63,13 @@ fn pairs(size: usize, n: u64) -> u32
         packet[size - 1] = (next % 256) as u8;
         let asked = site.offer((i % 4) as usize, &packet[..size], &mut store);
         let answer = asked.answer;
+        check = sums::answered(check, answer);
         // each site goes into a local of its own, which spares a copy of it
         let offered = asked.site;
         let left = offered.depart(&store, &mut out);
-        let reply = left.reply;
         site = left.site;
-        check = replied(sums::answered(check, answer), reply, &out);
+        let reply = left.reply;
+        check = replied(check, reply, &out);
         i = next;
     }
     check

@@ -1,5 +1,5 @@
--- The full state is sound, the list keeps its length, and the checksum stays small.
-use Prim.Native.Nat.{_-_, _<_}
+-- Every burst starts from the full state, which is sound, and the list keeps its length.
+use Prim.Native.Nat.{_-_}
 use mathlib.Core.Path.{_≡_}
 use lib.ListN.{length}
 use borrow.Author.Needs.{needs}
@@ -7,7 +7,7 @@ use Rattle.bench_again.proofs.again.Statement.{statement}
 use Rattle.bench_again.proofs.again.Tie as tie
 
 abbrev Inv-loop : tie.InvT-loop
-Inv-loop n full list₀ check₀ i₀ list check i = (length list ≡ 100) × (check < 1000003)
+Inv-loop n full list₀ check₀ i₀ list check i = length list ≡ 100
 
 abbrev μ-loop : tie.MeasureT-loop
 μ-loop n full list₀ check₀ i₀ list check i = n - i

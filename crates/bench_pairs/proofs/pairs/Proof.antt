@@ -1,12 +1,12 @@
--- Every call is made on a sound state, and the checksum stays small.
-use Prim.Native.Nat.{_-_, _<_}
+-- Every call is made on a sound state.
+use Prim.Native.Nat.{_-_}
 use borrow.Author.Needs.{needs}
 use Rattle.order.specs.Encoding.{Sound}
 use Rattle.bench_pairs.proofs.pairs.Statement.{statement}
 use Rattle.bench_pairs.proofs.pairs.Tie as tie
 
 abbrev Inv-loop : tie.InvT-loop
-Inv-loop flows n s₀ check₀ i₀ s check i = Sound s × (check < 1000003)
+Inv-loop flows n s₀ check₀ i₀ s check i = Sound s
 
 abbrev μ-loop : tie.MeasureT-loop
 μ-loop flows n s₀ check₀ i₀ s check i = n - i
@@ -26,11 +26,11 @@ size-requires c κs = search needs
 offer-requires : tie.Need-offer-requires Inv-loop μ-loop
 offer-requires c κs = search needs
 
-depart-requires : tie.Need-depart-requires Inv-loop μ-loop
-depart-requires c κs = search needs
-
 answered-requires : tie.Need-answered-requires Inv-loop μ-loop
 answered-requires c κs = search needs
+
+depart-requires : tie.Need-depart-requires Inv-loop μ-loop
+depart-requires c κs = search needs
 
 replied-requires : tie.Need-replied-requires Inv-loop μ-loop
 replied-requires c κs = search needs
@@ -58,8 +58,8 @@ pairs-spec =
     rem-offer
     size-requires
     offer-requires
-    depart-requires
     answered-requires
+    depart-requires
     replied-requires
     add-i
     loop-less

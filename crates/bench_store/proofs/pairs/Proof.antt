@@ -1,5 +1,5 @@
--- Every call is made on a sound site, buffers keep their lengths, and the checksum stays small.
-use Prim.Native.Nat.{_-_, _<_}
+-- Every call is made on a sound site, and buffers keep their lengths.
+use Prim.Native.Nat.{_-_}
 use mathlib.Core.Path.{_≡_}
 use native.Mathlib.Omega.{arith}
 use lib.ListN.{length}
@@ -10,7 +10,7 @@ use Rattle.bench_store.proofs.pairs.Statement.{statement}
 use Rattle.bench_store.proofs.pairs.Tie as tie
 
 abbrev Inv-loop : tie.InvT-loop
-Inv-loop size n site₀ packet₀ store₀ out₀ check₀ i₀ site packet store out check i = SoundSite site × (256 ≡ length packet) × (65536 ≡ length store) × (256 ≡ length out) × (check < 1000003)
+Inv-loop size n site₀ packet₀ store₀ out₀ check₀ i₀ site packet store out check i = SoundSite site × (256 ≡ length packet) × (65536 ≡ length store) × (256 ≡ length out)
 
 abbrev μ-loop : tie.MeasureT-loop
 μ-loop size n site₀ packet₀ store₀ out₀ check₀ i₀ site packet store out check i = n - i
@@ -57,6 +57,9 @@ slice-aggregate-offer-2 c = search needs
 offer-requires : tie.Need-offer-requires Inv-loop μ-loop
 offer-requires c κs = search needs
 
+answered-requires : tie.Need-answered-requires Inv-loop μ-loop
+answered-requires c κs = search needs
+
 slice-aggregate-depart : tie.Need-slice-aggregate-depart Inv-loop μ-loop
 slice-aggregate-depart c = search needs
 
@@ -65,9 +68,6 @@ slice-aggregate-depart-2 c = search needs
 
 depart-requires : tie.Need-depart-requires Inv-loop μ-loop
 depart-requires c κs = search needs
-
-answered-requires : tie.Need-answered-requires Inv-loop μ-loop
-answered-requires c κs = search needs
 
 replied-requires : tie.Need-replied-requires Inv-loop μ-loop
 replied-requires c κs = search needs
@@ -101,10 +101,10 @@ pairs-spec =
     slice-aggregate-offer
     slice-aggregate-offer-2
     offer-requires
+    answered-requires
     slice-aggregate-depart
     slice-aggregate-depart-2
     depart-requires
-    answered-requires
     replied-requires
     loop-less
     loop-again

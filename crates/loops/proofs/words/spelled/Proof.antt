@@ -1,4 +1,4 @@
--- A number that may grow by a digit is below a million million.
+-- A number takes a further digit only where it is small enough.
 use Prim.Native.Nat.{_-_}
 use lib.ListN.{length}
 use borrow.Author.Needs.{needs}
