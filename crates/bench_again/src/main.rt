@@ -43,5 +43,5 @@ fn main() {
             return;
         }
     }
-    words::usage(b"usage: bench_again N   N from 1\n");
+    words::usage(b"usage: bench_again N   N from 1 to 999999999999\n");
 }

@@ -53,5 +53,5 @@ fn main() {
             }
         }
     }
-    words::usage(b"usage: bench_pairs FLOWS N   FLOWS from 1 to 32, N from 1\n");
+    words::usage(b"usage: bench_pairs FLOWS N   FLOWS from 1 to 32, N from 1 to 999999999999\n");
 }

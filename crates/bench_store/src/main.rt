@@ -61,7 +61,7 @@ fn pairs(size: usize, n: u64) -> u32
         let next = i + 1;
         packet[0] = (i % 256) as u8;
         packet[size - 1] = (next % 256) as u8;
-        let asked = site.offer((i % 4) as usize, &packet[..size], &mut store);
+        let asked = site.offer((i % FLOWS as u64) as usize, &packet[..size], &mut store);
         let answer = asked.answer;
         check = sums::answered(check, answer);
         // each site goes into a local of its own, which spares a copy of it
@@ -86,5 +86,5 @@ fn main() {
             }
         }
     }
-    words::usage(b"usage: bench_store LEN N   LEN from 1 to 256, N from 1\n");
+    words::usage(b"usage: bench_store LEN N   LEN from 1 to 256, N from 1 to 999999999999\n");
 }

@@ -1,5 +1,4 @@
 // What the bench's loops share: the checksum, the sizes offered, the opened flows, and the program's arguments. bench/plain/README.md defines the loops.
-ghost use Prim.Native.Nat.{_≤_, _<_};
 ghost use Rattle.order.specs.Encoding.{Sound};
 use order::State;
 

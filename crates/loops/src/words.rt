@@ -1,5 +1,5 @@
 // The program's arguments as numbers, and what it prints.
-ghost use Prim.Native.Nat.{_≤_, _<_};
+ghost use Prim.Native.Nat.{_≤_};
 use libc::STDERR_FILENO;
 use libc::STDOUT_FILENO;
 

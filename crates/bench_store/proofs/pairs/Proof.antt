@@ -45,6 +45,9 @@ sub-packet c = search needs
 array-write-packet-2 : tie.Need-array-write-packet-2 Inv-loop μ-loop
 array-write-packet-2 c = search needs
 
+rem-offer : tie.Need-rem-offer Inv-loop μ-loop
+rem-offer c = search needs
+
 array-share-prefix-packet : tie.Need-array-share-prefix-packet Inv-loop μ-loop
 array-share-prefix-packet c = within _ (c .before .loop .packet) _ _ _ _ (omega arith)
 
@@ -97,6 +100,7 @@ pairs-spec =
     cast-packet-2
     sub-packet
     array-write-packet-2
+    rem-offer
     array-share-prefix-packet
     slice-aggregate-offer
     slice-aggregate-offer-2
