@@ -16,13 +16,13 @@ abbrev μ-loop : tie.MeasureT-loop
 μ-loop size n site₀ packet₀ store₀ out₀ check₀ i₀ site packet store out check i = n - i
 
 opened-requires : tie.Need-opened-requires Inv-loop μ-loop
-opened-requires c κs = search needs
+opened-requires c κs = tt
 
 filled-requires : tie.Need-filled-requires Inv-loop μ-loop
-filled-requires c κs = search needs
+filled-requires c κs = tt
 
 large-buffer-requires : tie.Need-large-buffer-requires Inv-loop μ-loop
-large-buffer-requires c κs = search needs
+large-buffer-requires c κs = tt
 
 loop-holds : tie.Need-loop-holds Inv-loop μ-loop
 loop-holds c = search needs
@@ -58,10 +58,10 @@ slice-aggregate-offer-2 : tie.Need-slice-aggregate-offer-2 Inv-loop μ-loop
 slice-aggregate-offer-2 c = search needs
 
 offer-requires : tie.Need-offer-requires Inv-loop μ-loop
-offer-requires c κs = search needs
+offer-requires c κs = c .before .before .before .loop .inv .0
 
 answered-requires : tie.Need-answered-requires Inv-loop μ-loop
-answered-requires c κs = search needs
+answered-requires c κs = tt
 
 slice-aggregate-depart : tie.Need-slice-aggregate-depart Inv-loop μ-loop
 slice-aggregate-depart c = search needs
@@ -70,10 +70,10 @@ slice-aggregate-depart-2 : tie.Need-slice-aggregate-depart-2 Inv-loop μ-loop
 slice-aggregate-depart-2 c = search needs
 
 depart-requires : tie.Need-depart-requires Inv-loop μ-loop
-depart-requires c κs = search needs
+depart-requires c κs = c .before .before .before .before .before .offer .ensures .sound
 
 replied-requires : tie.Need-replied-requires Inv-loop μ-loop
-replied-requires c κs = search needs
+replied-requires c κs = tt
 
 loop-less : tie.Need-loop-less Inv-loop μ-loop
 loop-less c = search needs
@@ -82,7 +82,7 @@ loop-again : tie.Need-loop-again Inv-loop μ-loop
 loop-again c = search needs
 
 returns : tie.Need-returns Inv-loop μ-loop
-returns c = search needs
+returns c = tt
 
 pub pairs-spec : {M : Type 1} → statement M
 pairs-spec =
