@@ -1,8 +1,9 @@
--- Rounding up covers what it rounds, and is no more than it.
+-- Rounding up covers what it rounds, and no more than is needed for that.
 use Prim.Native.Nat.{ℕ, zero, suc, _+_, _*_, _-_, _/_, _%_, _≤_, _<_, max}
 use mathlib.Core.Path.{_≡_, refl, sym, ap, _∙_}
 use mathlib.Core.Bool.{Bool, true, false, cond}
 use native.Mathlib.Omega.{arith}
+use native.Mathlib.Decide.{decLt}
 use native.Mathlib.Nat.{div-add-mod', mod-lt, div-lt-iff-lt-mul, le-mul-of-pos-right, le-max-left, le-max-right, max-le, mul-le-mul-left}
 use lib.Dec.{leb}
 use borrow.Author.Tests.{leb-true, le-leb, lt-leb}
@@ -16,6 +17,23 @@ rounded-up-at-most x w p =
     let small : x + (w - 1) < suc x * w = omega (arith, le-mul-of-pos-right x p) in
     let below : roundedUp x w < suc x = div-lt-iff-lt-mul p .1 small in
     omega arith
+
+-- It exceeds a number just where that number times the weight falls short.
+pub rounded-up-within : (x r w : ℕ) → 1 ≤ w → x ≤ r * w → roundedUp x w ≤ r
+rounded-up-within x r w p h =
+    let small : x + (w - 1) < suc r * w = omega arith in
+    let below : roundedUp x w < suc r = div-lt-iff-lt-mul p .1 small in
+    omega arith
+
+pub rounded-up-beyond : (x r w : ℕ) → 1 ≤ w → r * w < x → r < roundedUp x w
+rounded-up-beyond x r w p h =
+    elim (decLt r (roundedUp x w)) [
+      | yes b ↦ b
+      | no b ↦
+          let small : roundedUp x w < suc r = omega arith in
+          let below : x + (w - 1) < suc r * w = div-lt-iff-lt-mul p .0 small in
+          absurd (omega arith)
+    ]
 
 pub raised-keeps : (running w a n : ℕ) → running ≤ raised running w a n
 unfolding raised

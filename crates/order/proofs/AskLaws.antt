@@ -11,36 +11,38 @@ use Rattle.err.specs.Calls.{openRefusal, offerRefusal, openFlow, answerOf}
 use Rattle.err.specs.declared.Answer.{Answer}
 use Rattle.err.specs.declared.Answer.the-variants.{Done, Refused}
 use Rattle.err.proofs.Refusals.{MayOpen, may-open, MayOffer, may-offer}
-use Rattle.order.specs.Encoding.{packed, encodeFlow, encodeRound, viewRound, viewFlow}
-use Rattle.order.specs.Premises.{FlowReady, RoundReady, HasRoom, openedParts, offeredParts}
-use Rattle.order.specs.declared.Asked.{Asked}
+use Rattle.order.specs.Encoding.{RoundHeld, packed, encodeFlow, encodeRound, viewRound, viewFlow}
+use Rattle.order.specs.Premises.{FlowReady, RoundReady, HasRoom, OfferHeld, openedParts, offeredParts}
 use Rattle.order.specs.declared.FlowCell.{FlowCell}
-use Rattle.order.specs.declared.RoundCell.{RoundCell}
+use Rattle.order.specs.declared.Opened.{Opened}
 use Rattle.order.proofs.Encoded.{waiting-is}
 use Rattle.order.proofs.RoundLaws.{zero-chosen, positive-chosen}
 
-same-asked : {r r′ : RoundCell} {x x′ : FlowCell} {d d′ : Answer} → r ≡ r′ → x ≡ x′ → d ≡ d′
-    → _≡_ {A = Asked} (record { round = r; flow = x; answer = d }) (record { round = r′; flow = x′; answer = d′ })
-same-asked a b c = λ i. record { round = a i; flow = b i; answer = c i }
+same-opened : {x x′ : FlowCell} {d d′ : Answer} → x ≡ x′ → d ≡ d′ → _≡_ {A = Opened} (record { flow = x; answer = d }) (record { flow = x′; answer = d′ })
+same-opened a b = λ i. record { flow = a i; answer = b i }
 
-module _ (r : RoundCell) (x : FlowCell) (f n : ℕ) (ready : FlowReady x) where
+same-offered : {r r′ : RoundHeld} {x x′ : FlowCell} {d d′ : Answer} → r ≡ r′ → x ≡ x′ → d ≡ d′
+    → _≡_ {A = OfferHeld} (record { round = r; flow = x; answer = d }) (record { round = r′; flow = x′; answer = d′ })
+same-offered a b c = λ i. record { round = a i; flow = b i; answer = c i }
+
+module _ (x : FlowCell) (f n : ℕ) (ready : FlowReady x) where
   module _ (weight : ℕ) (e : n ≡ openRefusal f weight (viewFlow x)) where
     pub may-open-here : n ≡ 0 → MayOpen f weight (viewFlow x)
     may-open-here z = may-open f weight (viewFlow x) (sym e ∙ z)
 
     pub opened-law : n ≡ 0
-        → record { round = r; flow = record { weight = weight; surplus = 0; slot = 0; waiting = 0; sizes = 0 }; answer = Done }
-        ≡ openedParts r x f weight
+        → record { flow = record { weight = weight; surplus = 0; slot = 0; waiting = 0; sizes = 0 }; answer = Done }
+        ≡ openedParts x f weight
     unfolding openedParts encodeFlow packed
     opened-law z =
-        same-asked refl
+        same-opened
         (ap encodeFlow (sym (zero-chosen (openRefusal f weight (viewFlow x)) (openFlow weight) (viewFlow x) (sym e ∙ z))))
         (sym (ap answerOf (sym e ∙ z)))
 
-    pub open-refused-law : (n ≡ 0 → ⊥) → record { round = r; flow = x; answer = Refused n } ≡ openedParts r x f weight
+    pub open-refused-law : (n ≡ 0 → ⊥) → record { flow = x; answer = Refused n } ≡ openedParts x f weight
     unfolding openedParts
     open-refused-law d =
-        same-asked refl
+        same-opened
         (ready .form ∙ ap encodeFlow (sym (positive-chosen (openRefusal f weight (viewFlow x)) (openFlow weight) (viewFlow x) (λ z. d (e ∙ z)))))
         (sym (positive-chosen n Done (Refused n) d) ∙ ap answerOf e)
 
@@ -58,19 +60,19 @@ module _ (r : RoundCell) (x : FlowCell) (f n : ℕ) (ready : FlowReady x) where
           size-small = may-offer-here z .size-small;
         }
 
-    pub offered-law : (line : RoundCell) (queue : FlowCell) → n ≡ 0 → line ≡ encodeRound (flowLined (viewRound r) f (viewFlow x))
+    pub offered-law : (r line : RoundHeld) (queue : FlowCell) → n ≡ 0 → line ≡ encodeRound (flowLined (viewRound r) f (viewFlow x))
         → queue ≡ encodeFlow (packetJoined (viewFlow x) size) → record { round = line; flow = queue; answer = Done } ≡ offeredParts r x f size
     unfolding offeredParts
-    offered-law line queue z a b =
-        same-asked
+    offered-law r line queue z a b =
+        same-offered
         (a ∙ ap encodeRound (sym (zero-chosen (offerRefusal f size (viewFlow x)) (flowLined (viewRound r) f (viewFlow x)) (viewRound r) (sym e ∙ z))))
         (b ∙ ap encodeFlow (sym (zero-chosen (offerRefusal f size (viewFlow x)) (packetJoined (viewFlow x) size) (viewFlow x) (sym e ∙ z))))
         (sym (ap answerOf (sym e ∙ z)))
 
-    pub offer-refused-law : RoundReady r → (n ≡ 0 → ⊥) → record { round = r; flow = x; answer = Refused n } ≡ offeredParts r x f size
+    pub offer-refused-law : (r : RoundHeld) → RoundReady r → (n ≡ 0 → ⊥) → record { round = r; flow = x; answer = Refused n } ≡ offeredParts r x f size
     unfolding offeredParts
-    offer-refused-law round d =
-        same-asked
+    offer-refused-law r round d =
+        same-offered
         (round .form ∙ ap encodeRound (sym (positive-chosen (offerRefusal f size (viewFlow x)) (flowLined (viewRound r) f (viewFlow x)) (viewRound r) (λ z. d (e ∙ z)))))
         (ready .form ∙ ap encodeFlow (sym (positive-chosen (offerRefusal f size (viewFlow x)) (packetJoined (viewFlow x) size) (viewFlow x) (λ z. d (e ∙ z)))))
         (sym (positive-chosen n Done (Refused n) d) ∙ ap answerOf e)

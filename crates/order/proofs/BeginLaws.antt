@@ -14,21 +14,19 @@ use Rattle.err.specs.declared.Reply.the-variants.{Idle}
 use Rattle.err.specs.declared.Serving.{Serving}
 use Rattle.err.specs.declared.Serving.the-variants.{NoTurn, Turn}
 use Rattle.err.proofs.Flows.{cleared-flow-rules}
-use Rattle.order.specs.Encoding.{cells, encodeFlow, encodeRound, encodeVisit, viewRound, viewFlow}
-use Rattle.order.specs.Premises.{FlowReady, RoundReady, HasFirst, MayServe, MayBegin, MayVisit}
+use Rattle.order.specs.Encoding.{RoundHeld, lineRoom, cells, encodeFlow, encodeRound, viewRound, viewFlow}
+use Rattle.order.specs.Premises.{FlowReady, RoundReady, HasFirst, MayServe, MayBegin, MayVisit, VisitHeld, encodeVisit}
 use Rattle.order.specs.declared.FlowCell.{FlowCell}
-use Rattle.order.specs.declared.RoundCell.{RoundCell}
-use Rattle.order.specs.declared.Visited.{Visited}
 use Rattle.order.proofs.TurnLaws.{same-visit}
 use Rattle.order.proofs.Encoded.{flow-seen, flow-ready, round-seen, round-ready, waiting-is, line-is, length-is}
 
 -- The first cell of a line is its head; 0 where the line is empty.
-first-cell : (l : List ℕ) → getD (cells flowLimit l) 0 0 ≡ getD l 0 0
+first-cell : (l : List ℕ) → getD (cells lineRoom l) 0 0 ≡ getD l 0 0
 unfolding cells
 first-cell [] = refl
 first-cell (f ∷ l) = refl
 
-pub head-is : (r : RoundCell) → r ≡ encodeRound (viewRound r) → getD (r .line) 0 0 ≡ getD (viewRound r .line) 0 0
+pub head-is : (r : RoundHeld) → r ≡ encodeRound (viewRound r) → getD (r .line) 0 0 ≡ getD (viewRound r .line) 0 0
 head-is r form = ap (λ (l : List ℕ). getD l 0 0) (line-is r form) ∙ first-cell (viewRound r .line)
 
 visit-of-head : (l : List ℕ) (r : Round) (x : Flow) → 0 < length l
@@ -46,7 +44,7 @@ some-visit : (v n : ℕ) → 0 < n → 1 ≤ ifZero v n v
 some-visit zero n h = h
 some-visit (suc v) n h = omega arith
 
-module _ (r : RoundCell) (x : FlowCell) (h : MayBegin r x) where
+module _ (r : RoundHeld) (x : FlowCell) (h : MayBegin r x) where
   some-stand : 0 < length (viewRound r .line)
   some-stand = omega (arith, length-is r (h .round-ready .form), h .some-in-line)
 
@@ -63,7 +61,7 @@ module _ (r : RoundCell) (x : FlowCell) (h : MayBegin r x) where
   pub ready-of-first : FlowReady x
   ready-of-first = record { form = h .has-first .form; rules = h .has-first .rules }
 
-  module _ (now : RoundCell) (n : now ≡ encodeRound (roundStarted (viewRound r))) where
+  module _ (now : RoundHeld) (n : now ≡ encodeRound (roundStarted (viewRound r))) where
     pub now-ready : RoundReady now
     now-ready = subst RoundReady (sym n) started-ready
 
@@ -73,13 +71,13 @@ module _ (r : RoundCell) (x : FlowCell) (h : MayBegin r x) where
 
     mark-is : now .mark ≡ roundStarted (viewRound r) .mark
     unfolding encodeRound
-    mark-is = ap (λ (c : RoundCell). c .mark) n
+    mark-is = ap (λ (c : RoundHeld). c .mark) n
 
     pub may-allow : (x .weight ≤ weightLimit) × (now .mark ≤ markLimit) × (x .surplus ≤ x .weight * now .mark)
     unfolding viewFlow
     may-allow = (h .has-first .rules .weight-in-range, now-ready .mark-in-range, rw mark-is (h .owed))
 
-    module _ (allowed : ℕ) (a : allowed ≡ allowance (x .weight) (now .mark) (x .surplus)) (opened : RoundCell) (f : ℕ)
+    module _ (allowed : ℕ) (a : allowed ≡ allowance (x .weight) (now .mark) (x .surplus)) (opened : RoundHeld) (f : ℕ)
         (o : opened ≡ encodeRound (turnOpened (viewRound now) f allowed)) (clear : FlowCell) (k : clear ≡ encodeFlow (surplusCleared (viewFlow x))) where
       now-seen : viewRound now ≡ roundStarted (viewRound r)
       now-seen = ap viewRound n ∙ round-seen (roundStarted (viewRound r))
@@ -101,7 +99,7 @@ module _ (r : RoundCell) (x : FlowCell) (h : MayBegin r x) where
 
       visits-are : opened .visits ≡ ifZero (r .visits) (length (viewRound r .line)) (r .visits)
       unfolding encodeRound turnOpened viewRound roundStarted
-      visits-are = ap (λ (c : RoundCell). c .visits) o ∙ ap (λ (c : RoundCell). c .visits) n
+      visits-are = ap (λ (c : RoundHeld). c .visits) o ∙ ap (λ (c : RoundHeld). c .visits) n
 
       pub may-serve : MayServe opened clear allowed 0
       unfolding encodeFlow surplusCleared viewFlow encodeRound turnOpened
@@ -116,13 +114,13 @@ module _ (r : RoundCell) (x : FlowCell) (h : MayBegin r x) where
                 };
             weighs = omega (arith, ap (λ (c : FlowCell). c .weight) k, h .weighs);
             no-surplus = ap (λ (c : FlowCell). c .surplus) k;
-            line-has-room = omega (arith, ap (λ (c : RoundCell). c .length) o, one-less, now-some, now-ready .line-fits);
+            line-has-room = omega (arith, ap (λ (c : RoundHeld). c .length) o, one-less, now-some, now-ready .line-fits);
             a-visit-left = omega (arith, visits-are, some-visit (r .visits) (length (viewRound r .line)) some-stand);
             allowed-in-range = omega (arith, mul-le-mul (may-allow .0) (may-allow .1));
             more-may-be-sent = omega (arith, may-allow .2, h .weighs);
           }
 
-      pub begun-law : (v : Visited) → f ≡ getD (r .line) 0 0 → v ≡ encodeVisit (served (viewRound opened) (viewFlow clear) f allowed 0)
+      pub begun-law : (v : VisitHeld) → f ≡ getD (r .line) 0 0 → v ≡ encodeVisit (served (viewRound opened) (viewFlow clear) f allowed 0)
           → v ≡ encodeVisit (visitBy NoTurn (viewRound r .line) (viewRound r) (viewFlow x))
       unfolding viewFlow
       begun-law v g e =
@@ -141,12 +139,12 @@ module _ (r : RoundCell) (x : FlowCell) (h : MayBegin r x) where
           head = g ∙ head-is r (h .round-ready .form)
 
 -- Which of the model's cases a visit is, by the turn.
-pub turn-law : (r : RoundCell) (x : FlowCell) (f allowed sent : ℕ) → r .turn ≡ Turn f allowed sent
+pub turn-law : (r : RoundHeld) (x : FlowCell) (f allowed sent : ℕ) → r .turn ≡ Turn f allowed sent
     → visit (viewRound r) (viewFlow x) ≡ served (viewRound r) (viewFlow x) f allowed sent
 unfolding visit visitBy viewRound
 turn-law r x f allowed sent t = ap (λ (u : Serving). visitBy u (viewRound r .line) (viewRound r) (viewFlow x)) t
 
-pub head-law : (r : RoundCell) (x : FlowCell) → r .turn ≡ NoTurn
+pub head-law : (r : RoundHeld) (x : FlowCell) → r .turn ≡ NoTurn
     → visit (viewRound r) (viewFlow x) ≡ visitBy NoTurn (viewRound r .line) (viewRound r) (viewFlow x)
 unfolding visit viewRound
 head-law r x t = ap (λ (u : Serving). visitBy u (viewRound r .line) (viewRound r) (viewFlow x)) t
@@ -156,7 +154,7 @@ nobody [] e = refl
 nobody (f ∷ l) e = absurd (omega arith)
 
 -- With no open turn and nobody in line it is idle.
-pub idle-law : (r : RoundCell) (x : FlowCell) → MayVisit r x → r .turn ≡ NoTurn → r .length ≡ 0
+pub idle-law : (r : RoundHeld) (x : FlowCell) → MayVisit r x → r .turn ≡ NoTurn → r .length ≡ 0
     → record { round = r; flow = x; reply = Idle } ≡ encodeVisit (visit (viewRound r) (viewFlow x))
 unfolding encodeVisit visitBy
 idle-law r x h t e =
@@ -165,10 +163,10 @@ idle-law r x h t e =
     (sym (head-law r x t
     ∙ ap (λ (l : List ℕ). visitBy NoTurn l (viewRound r) (viewFlow x)) (nobody (viewRound r .line) (sym (length-is r (h .round-ready .form)) ∙ e))))
 
-pub whose-turn : (r : RoundCell) (f allowed sent : ℕ) → r .turn ≡ Turn f allowed sent → f ≡ whose (viewRound r)
+pub whose-turn : (r : RoundHeld) (f allowed sent : ℕ) → r .turn ≡ Turn f allowed sent → f ≡ whose (viewRound r)
 unfolding viewRound
 whose-turn r f allowed sent t = sym (ap (λ (u : Serving). whoseTurn u (viewRound r .line)) t)
 
-pub whose-head : (r : RoundCell) → r ≡ encodeRound (viewRound r) → r .turn ≡ NoTurn → getD (r .line) 0 0 ≡ whose (viewRound r)
+pub whose-head : (r : RoundHeld) → r ≡ encodeRound (viewRound r) → r .turn ≡ NoTurn → getD (r .line) 0 0 ≡ whose (viewRound r)
 unfolding viewRound
 whose-head r form t = head-is r form ∙ sym (ap (λ (u : Serving). whoseTurn u (viewRound r .line)) t)

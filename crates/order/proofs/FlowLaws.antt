@@ -5,7 +5,7 @@ use mathlib.Core.List.{List, [], _∷_, _++_}
 use native.Mathlib.Omega.{arith}
 use native.Mathlib.Numerals.{sub-one}
 use lib.ListN.{length, getD, length-append, length-drop}
-use Rattle.err.specs.Limits.{queueLimit, sizeLimit}
+use Rattle.err.specs.Limits.{weightLimit, queueLimit, sizeLimit}
 use Rattle.err.specs.Choose.{ifEmpty}
 use Rattle.err.specs.Rules.{Sizes, none, one}
 use Rattle.err.specs.Steps.{packetJoined, surplusCleared, firstSize, firstLeft, excessKept}
@@ -31,40 +31,44 @@ waiting-by-count [] a b d = absurd (d refl)
 waiting-by-count (p ∷ q) a b d = refl
 
 -- One less than a size, added at the next place.
-size-added : (q : List ℕ) (m n place size : ℕ) → m ≡ packed q → n ≡ length q → place ≡ sizeLimit ^ n
-    → m + place * (size - 1) ≡ packed (q ++ (size ∷ []))
+size-added : (q : List ℕ) (m n worth size : ℕ) → m ≡ packed q → n ≡ length q → worth ≡ sizeLimit ^ n
+    → m + worth * (size - 1) ≡ packed (q ++ (size ∷ []))
 size-added q m n place size e k p = rw (e, p, k, sub-one) (sym (packed-joined q size))
 
 first-small : (q : List ℕ) → Sizes q → getD q 0 0 ≤ sizeLimit
 first-small q none = omega arith
 first-small q (one {p} a b more) = b
 
-module _ (x : FlowCell) (size : ℕ) (h : HasRoom x size) (place : ℕ) (p : place ≡ sizeLimit ^ x .waiting) where
-  added-sizes : x .sizes + place * (size - 1) ≡ packed (viewFlow x .queue ++ (size ∷ []))
-  added-sizes = size-added (viewFlow x .queue) (x .sizes) (x .waiting) place size (sizes-are x (h .form)) (waiting-is x (h .form)) p
+module _ (x : FlowCell) (size : ℕ) (h : HasRoom x size) (worth : ℕ) (p : worth ≡ sizeLimit ^ x .waiting) where
+  added-sizes : x .sizes + worth * (size - 1) ≡ packed (viewFlow x .queue ++ (size ∷ []))
+  added-sizes = size-added (viewFlow x .queue) (x .sizes) (x .waiting) worth size (sizes-are x (h .form)) (waiting-is x (h .form)) p
 
   one-more : x .waiting + 1 ≡ length (viewFlow x .queue ++ (size ∷ []))
   one-more = omega (arith, waiting-is x (h .form), length-append (viewFlow x .queue) (size ∷ []))
 
-  pub joined-fits : x .sizes + place * (size - 1) < 2 ^ 64
+  pub joined-fits : x .sizes + worth * (size - 1) < 2 ^ 64
   joined-fits =
       omega (arith, added-sizes, packed-fits (sizes-joined (h .rules .sizes-in-range) (h .size-positive) (h .size-small)) (omega (arith, one-more, h .room)))
 
   pub joined-first : x .waiting ≡ 0
-      → record { weight = x .weight; surplus = 0; slot = x .slot; waiting = 1; sizes = x .sizes + place * (size - 1) }
+      → record { weight = x .weight; surplus = 0; slot = x .slot; waiting = 1; sizes = x .sizes + worth * (size - 1) }
       ≡ encodeFlow (packetJoined (viewFlow x) size)
   unfolding encodeFlow packetJoined viewFlow
   joined-first e =
       same-cell refl (sym (empty-by-count (viewFlow x .queue) 0 (x .surplus) (omega (arith, waiting-is x (h .form))))) refl (omega (arith, one-more)) added-sizes
 
   pub joined-behind : (x .waiting ≡ 0 → ⊥)
-      → record { weight = x .weight; surplus = x .surplus; slot = x .slot; waiting = x .waiting + 1; sizes = x .sizes + place * (size - 1) }
+      → record { weight = x .weight; surplus = x .surplus; slot = x .slot; waiting = x .waiting + 1; sizes = x .sizes + worth * (size - 1) }
       ≡ encodeFlow (packetJoined (viewFlow x) size)
   unfolding encodeFlow packetJoined viewFlow
   joined-behind d =
       same-cell refl (sym (waiting-by-count (viewFlow x .queue) 0 (x .surplus) (λ e. d (waiting-is x (h .form) ∙ e)))) refl one-more added-sizes
 
 module _ (x : FlowCell) (h : FlowReady x) where
+  pub weight-small : x .weight ≤ weightLimit
+  unfolding viewFlow
+  weight-small = h .rules .weight-in-range
+
   -- A change of the surplus alone.
   with-surplus : (σ : ℕ) → record { weight = x .weight; surplus = σ; slot = x .slot; waiting = x .waiting; sizes = x .sizes }
       ≡ encodeFlow (record { weight = viewFlow x .weight; surplus = σ; slot = viewFlow x .slot; queue = viewFlow x .queue })
@@ -76,18 +80,18 @@ module _ (x : FlowCell) (h : FlowReady x) where
   unfolding surplusCleared
   cleared-law = with-surplus 0
 
-  pub none-left-law : (allowed sent : ℕ) → x .waiting ≡ 0
-      → record { weight = x .weight; surplus = 0; slot = x .slot; waiting = x .waiting; sizes = x .sizes }
-      ≡ encodeFlow (excessKept (viewFlow x) allowed sent)
-  unfolding excessKept
-  none-left-law allowed sent e =
-      rw (empty-by-count (viewFlow x .queue) 0 (sent - allowed) (omega (arith, waiting-is x (h .form)))) (with-surplus 0)
+  -- With none waiting nothing is kept.
+  pub nothing-kept : (allowed sent : ℕ) → x .waiting ≡ 0 → encodeFlow (surplusCleared (viewFlow x)) ≡ encodeFlow (excessKept (viewFlow x) allowed sent)
+  unfolding excessKept surplusCleared
+  nothing-kept allowed sent e =
+      ap (λ (σ : ℕ). encodeFlow (record { weight = viewFlow x .weight; surplus = σ; slot = viewFlow x .slot; queue = viewFlow x .queue }))
+      (sym (empty-by-count (viewFlow x .queue) 0 (sent - allowed) (sym (waiting-is x (h .form)) ∙ e)))
 
-  pub some-left-law : (allowed sent : ℕ) → (x .waiting ≡ 0 → ⊥)
+  pub excess-law : (allowed sent : ℕ) → (x .waiting ≡ 0 → ⊥)
       → record { weight = x .weight; surplus = sent - allowed; slot = x .slot; waiting = x .waiting; sizes = x .sizes }
       ≡ encodeFlow (excessKept (viewFlow x) allowed sent)
   unfolding excessKept
-  some-left-law allowed sent d =
+  excess-law allowed sent d =
       rw (waiting-by-count (viewFlow x .queue) 0 (sent - allowed) (λ e. d (waiting-is x (h .form) ∙ e))) (with-surplus (sent - allowed))
 
 module _ (x : FlowCell) (h : HasFirst x) where

@@ -3,25 +3,24 @@ use Prim.Native.Nat.{ℕ, zero, suc, pred, _+_, _*_, _/_, _%_, _^_, _≤_, _<_}
 use mathlib.Core.Path.{_≡_, refl, sym, ap, ap₂, _∙_}
 use mathlib.Core.List.{List, [], _∷_, _++_, map}
 use native.Mathlib.Omega.{arith}
-use native.Mathlib.Nat.{pow-succ', pow-le-pow-right, mul-assoc}
+use native.Mathlib.Nat.{pow-succ', pow-suc, pow-le-pow-right, mul-suc, mul-assoc, one-mul}
+use lib.Pow.{pow-add, shl-exact}
 use lib.ListN.{length, getD, drop, List·getD-map}
 use Rattle.err.specs.Limits.{sizeLimit, queueLimit}
 use Rattle.err.specs.Rules.{Sizes, none, one}
 use Rattle.order.specs.Encoding.{packed, unpacked}
 
--- What a digit counts at each of the lowest places.
-unfoldable pub places : ℕ → List ℕ
-places zero = []
-places (suc k) = 1 ∷ map (λ (d : ℕ). sizeLimit * d) (places k)
+-- What a digit is worth, place by place: a shift by eight bits for each.
+eight-bits-each : (n : ℕ) → 2 ^ (8 * n) ≡ sizeLimit ^ n
+eight-bits-each zero = refl
+eight-bits-each (suc n) =
+    ap (λ (k : ℕ). 2 ^ k) (mul-suc 8 n)
+    ∙ pow-add 2 (8 * n) 8
+    ∙ ap (λ (m : ℕ). m * sizeLimit) (eight-bits-each n)
+    ∙ sym (pow-suc sizeLimit n)
 
-pub places-are : (k n : ℕ) → n < k → getD (places k) n 0 ≡ sizeLimit ^ n
-unfolding places
-places-are zero n h = absurd (omega arith)
-places-are (suc k) zero h = refl
-places-are (suc k) (suc n) h =
-    List·getD-map (λ (d : ℕ). sizeLimit * d) (places k) n 0
-    ∙ ap (λ (d : ℕ). sizeLimit * d) (places-are k n (omega arith))
-    ∙ sym (pow-succ' sizeLimit n)
+pub worth-is : (n : ℕ) → n < queueLimit → 1 * 2 ^ (8 * n) % 2 ^ 64 ≡ sizeLimit ^ n
+worth-is n h = shl-exact 1 (8 * n) 64 (omega arith) (omega arith) ∙ one-mul (2 ^ (8 * n)) ∙ eight-bits-each n
 
 -- A digit counts sizeLimit times as much one place up.
 one-place-up : (n d : ℕ) → sizeLimit ^ suc n * d ≡ sizeLimit * (sizeLimit ^ n * d)

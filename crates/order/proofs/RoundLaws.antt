@@ -1,37 +1,40 @@
 -- From what a function on the round stores to what the model's step says.
-use Prim.Native.Nat.{ℕ, zero, suc, _+_, _*_, _-_, _≤_, _<_}
+use Prim.Native.Nat.{ℕ, zero, suc, _+_, _*_, _-_, _≤_, _<_, max}
 use mathlib.Core.Path.{_≡_, refl, sym, ap, _∙_, subst}
 use mathlib.Core.List.{List, [], _∷_, _++_}
-use mathlib.Core.Bool.{Bool, true, false}
+use mathlib.Core.Bool.{Bool, true, false, cond}
 use native.Mathlib.Omega.{arith}
 use lib.ListN.{length, getD, set, drop, length-append, length-drop}
 use lib.Dec.{leb}
+use borrow.Author.Tests.{le-leb, lt-leb}
 use Rattle.err.specs.Limits.{flowLimit, markLimit}
 use Rattle.err.specs.Choose.{ifEmpty, ifZero}
 use Rattle.err.specs.Model.{Flow, Round}
-use Rattle.err.specs.Steps.{flowLined, roundStarted, turnOpened, turnEnds, turnKept, turnClosed, raised}
+use Rattle.err.specs.Steps.{flowLined, roundStarted, turnOpened, turnEnds, turnKept, turnClosed, raised, roundedUp}
+use Rattle.err.proofs.Rounding.{rounded-up-within, rounded-up-beyond}
 use Rattle.err.specs.declared.Serving.{Serving}
 use Rattle.err.specs.declared.Serving.the-variants.{NoTurn, Turn}
-use Rattle.order.specs.Encoding.{cells, encodeRound, viewRound, viewFlow}
+use Rattle.order.specs.Encoding.{RoundHeld, lineRoom, cells, encodeRound, viewRound, viewFlow}
 use Rattle.order.specs.Premises.{FlowReady, RoundReady}
 use Rattle.order.specs.declared.FlowCell.{FlowCell}
-use Rattle.order.specs.declared.RoundCell.{RoundCell}
-use Rattle.order.proofs.Encoded.{cells-joined, cells-left, waiting-is, line-is, length-is}
+use Rattle.order.proofs.Encoded.{cells-length, cells-joined, cells-left, waiting-is, line-is, length-is}
 use Rattle.order.proofs.FlowLaws.{empty-by-count, waiting-by-count}
 
 -- Two rounds' cells with equal parts are equal.
 pub same-round : {l l′ : List ℕ} {n n′ v v′ m m′ k k′ : ℕ} {t t′ : Serving} → l ≡ l′ → n ≡ n′ → v ≡ v′ → m ≡ m′ → k ≡ k′ → t ≡ t′
-    → _≡_ {A = RoundCell} (record { line = l; length = n; visits = v; mark = m; running = k; turn = t })
+    → _≡_ {A = RoundHeld} (record { line = l; length = n; visits = v; mark = m; running = k; turn = t })
     (record { line = l′; length = n′; visits = v′; mark = m′; running = k′; turn = t′ })
 same-round a b c d e f = λ i. record { line = a i; length = b i; visits = c i; mark = d i; running = e i; turn = f i }
 
 -- Storing a flow number behind the last; taking the first out.
-flow-stored : (l c : List ℕ) (n f : ℕ) → c ≡ cells flowLimit l → n ≡ length l → n < flowLimit → set c n f ≡ cells flowLimit (l ++ (f ∷ []))
-flow-stored l c n f e k h = rw (e, k) (cells-joined flowLimit l f (omega arith))
+flow-stored : (l c : List ℕ) (n f : ℕ) → c ≡ cells lineRoom l → n ≡ length l → n < flowLimit → set c n f ≡ cells lineRoom (l ++ (f ∷ []))
+flow-stored l c n f e k h = rw (e, k) (cells-joined lineRoom l f (omega arith))
 
-head-taken : (l c : List ℕ) → c ≡ cells flowLimit l → 0 < length l → length l ≤ flowLimit → drop 1 c ++ (0 ∷ []) ≡ cells flowLimit (drop 1 l)
+head-taken : (l c : List ℕ) → c ≡ cells lineRoom l → 0 < length l → length l ≤ flowLimit → drop 1 c ++ drop (length c - 1) c ≡ cells lineRoom (drop 1 l)
 head-taken [] c e h b = absurd (omega arith)
-head-taken (f ∷ l) c e h b = rw e (cells-left flowLimit f l b)
+head-taken (f ∷ l) c e h b =
+    rw e (ap (λ (n : ℕ). drop 1 (cells lineRoom (f ∷ l)) ++ drop (n - 1) (cells lineRoom (f ∷ l))) (cells-length lineRoom (f ∷ l) (omega arith))
+    ∙ cells-left lineRoom f l (omega arith))
 
 pub zero-chosen : {A : Type 0} (n : ℕ) (a b : A) → n ≡ 0 → ifZero n a b ≡ a
 zero-chosen zero a b e = refl
@@ -41,7 +44,7 @@ pub positive-chosen : {A : Type 0} (n : ℕ) (a b : A) → (n ≡ 0 → ⊥) →
 positive-chosen zero a b d = absurd (d refl)
 positive-chosen (suc n) a b d = refl
 
-module _ (r : RoundCell) (h : RoundReady r) where
+module _ (r : RoundHeld) (h : RoundReady r) where
   -- The round as it is seen, with other numbers.
   pub renumbered : (v m k : ℕ) (t : Serving)
       → record { line = r .line; length = r .length; visits = v; mark = m; running = k; turn = t }
@@ -80,7 +83,7 @@ module _ (r : RoundCell) (h : RoundReady r) where
       (sym (positive-chosen (r .visits) 0 (r .running) d))
       refl
 
-  pub opened-law : (f allowed : ℕ) (line : List ℕ) → 0 < r .length → line ≡ drop 1 (r .line) ++ (0 ∷ [])
+  pub opened-law : (f allowed : ℕ) (line : List ℕ) → 0 < r .length → line ≡ drop 1 (r .line) ++ drop (length (r .line) - 1) (r .line)
       → record { line = line; length = r .length - 1; visits = r .visits; mark = r .mark; running = r .running; turn = Turn f allowed 0 }
       ≡ encodeRound (turnOpened (viewRound r) f allowed)
   unfolding turnOpened encodeRound viewRound
@@ -126,3 +129,23 @@ module _ (r : RoundCell) (h : RoundReady r) where
     rejoined-law f allowed sent running m d b =
         rw (m, waiting-by-count (viewFlow x .queue) (viewRound r .line) (viewRound r .line ++ (f ∷ [])) (λ e. d (waiting-is x (ready .form) ∙ e)))
         (lengthened f (r .visits - 1) (r .mark) (raised (r .running) (x .weight) allowed sent) NoTurn b)
+
+-- The running mark, by whether the excess is 0 or more.
+pub raised-by : (running weight allowed sent m : ℕ) → allowed ≤ sent → m ≡ max running (roundedUp (sent - allowed) weight)
+    → m ≡ raised running weight allowed sent
+unfolding raised
+raised-by running weight allowed sent m h e =
+    e ∙ ap (λ (b : Bool). cond b (max running (roundedUp (sent - allowed) weight)) running) (sym (le-leb allowed sent h))
+
+pub not-raised : (running weight allowed sent : ℕ) → (allowed ≤ sent → ⊥) → running ≡ raised running weight allowed sent
+unfolding raised
+not-raised running weight allowed sent h =
+    ap (λ (b : Bool). cond b (max running (roundedUp (sent - allowed) weight)) running) (sym (lt-leb allowed sent (omega arith)))
+
+-- A running mark whose product with the weight covers the excess is no less than the excess by weight, rounded up.
+module _ (running weight excess : ℕ) (some : 1 ≤ weight) where
+  pub high-enough : excess ≤ running * weight → running ≡ max running (roundedUp excess weight)
+  high-enough h = omega (arith, rounded-up-within excess running weight some h)
+
+  pub too-low : running * weight < excess → roundedUp excess weight ≡ max running (roundedUp excess weight)
+  too-low h = omega (arith, rounded-up-beyond excess running weight some h)

@@ -30,7 +30,6 @@ module _ (c : List ℕ) (i : ℕ) (inside : i < length c) where
           ∙ getD-append-add (take i (drop 1 c)) (drop i c) 1 0
           ∙ getD-drop i c 1 0
 
-  pub all-moved : suc i ≡ length c → set (movedDown c i) i 0 ≡ drop 1 c ++ (0 ∷ [])
-  all-moved last =
-      stored 0
-      ∙ rw (take-all i (drop 1 c) (omega (arith, length-drop 1 c)), drop-of-length-le c {i = suc i} (omega arith))
+-- All have moved; the last is where it was as well.
+pub all-moved : (c : List ℕ) (i : ℕ) → i ≡ length c - 1 → movedDown c i ≡ drop 1 c ++ drop (length c - 1) c
+all-moved c i last = rw (last, take-all (length c - 1) (drop 1 c) (omega (arith, length-drop 1 c)))

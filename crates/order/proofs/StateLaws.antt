@@ -22,11 +22,12 @@ use Rattle.err.specs.declared.Serving.the-variants.{NoTurn, Turn}
 use Rattle.err.proofs.Flows.{put-back}
 use Rattle.err.proofs.Keeps.{new-keeps, opened-keeps, offered-keeps, departed-keeps}
 use Rattle.err.proofs.Standing.{InRange, TurnFacts, HeadFacts, in-range, room-for-another, turn-facts, head-facts, whose-in-reach}
-use Rattle.order.specs.Encoding.{encodeFlow, encodeRound, encodeVisit, encode, viewFlow, viewRound, view, Sound}
-use Rattle.order.specs.Premises.{FlowReady, RoundReady, HasFirst, MayServe, MayBegin, MayVisit, openedParts, offeredParts}
+use Rattle.order.specs.Encoding.{RoundHeld, held, numbersOf, roundOf, encodeFlow, viewFlow, encodeRound, viewRound, encode, view, Sound}
+use Rattle.order.specs.Premises.{FlowReady, RoundReady, HasFirst, MayServe, MayBegin, MayVisit, VisitHeld, encodeVisit, heldVisit, OfferHeld, withLength, heldOffer, openedParts, offeredParts}
 use Rattle.order.specs.Promised.{answeredAs, departedAs, GivesNew, OpenGives, OfferGives, DepartGives}
 use Rattle.order.specs.declared.Answered.{Answered}
-use Rattle.order.specs.declared.Asked.{Asked}
+use Rattle.order.specs.declared.Offered.{Offered}
+use Rattle.order.specs.declared.Opened.{Opened}
 use Rattle.order.specs.declared.Departed.{Departed}
 use Rattle.order.specs.declared.FlowCell.{FlowCell}
 use Rattle.order.specs.declared.RoundCell.{RoundCell}
@@ -69,9 +70,9 @@ module _ (c : State) (S : Sound c) where
   unfolding encode
   flows-are = ap (λ (k : State). k .flows) (S .form)
 
-  round-form : c .round ≡ encodeRound (viewRound (c .round))
+  round-form : roundOf c ≡ encodeRound (viewRound (roundOf c))
   unfolding encode view
-  round-form = ap (λ (k : State). k .round) (S .form)
+  round-form = ap roundOf (S .form)
 
   pub cell-at : (f : ℕ) → f < flowLimit → getD (c .flows) f noCell ≡ encodeFlow (flowAt (view c) f)
   cell-at f h =
@@ -85,23 +86,23 @@ module _ (c : State) (S : Sound c) where
   pub cell-seen : (f : ℕ) → f < flowLimit → viewFlow (getD (c .flows) f noCell) ≡ flowAt (view c) f
   cell-seen f h = ap viewFlow (cell-at f h) ∙ flow-seen (flowAt (view c) f) (S .rules .flow-rules f .sizes-in-range)
 
-  pub round-of-sound : RoundReady (c .round)
+  pub round-of-sound : RoundReady (roundOf c)
   unfolding view viewRound
   round-of-sound =
       let R : InRange (view c .round) = in-range (view c) (S .rules) in
       record {
         form = round-form;
-        line-fits = omega (arith, length-is (c .round) round-form, R .line-in-range);
+        line-fits = omega (arith, length-is (roundOf c) round-form, R .line-in-range);
         mark-in-range = R .mark-in-range;
         running-in-range = R .running-in-range;
       }
 
   -- One flow put back, with a round.
-  pub put-law : (f : ℕ) (x : FlowCell) (r : RoundCell) (y : Flow) (q : Round) → x ≡ encodeFlow y → r ≡ encodeRound q
-      → record { flows = set (c .flows) f x; round = r } ≡ encode (put (view c) f y q)
+  pub put-law : (f : ℕ) (x : FlowCell) (line : List ℕ) (r : RoundCell) (y : Flow) (q : Round) → x ≡ encodeFlow y → held line r ≡ encodeRound q
+      → record { flows = set (c .flows) f x; line = line; round = r } ≡ encode (put (view c) f y q)
   unfolding encode put
-  put-law f x r y q a b =
-      ap₂ (λ (l : List FlowCell) (k : RoundCell). record { flows = l; round = k })
+  put-law f x line r y q a b =
+      ap₂ (λ (l : List FlowCell) (k : RoundHeld). record { flows = l; line = k .line; round = numbersOf k })
       (ap₂ (λ (l : List FlowCell) (k : FlowCell). set l f k) flows-are a ∙ map-set (view c .flows) f y)
       b
 
@@ -131,13 +132,13 @@ module _ (c : State) (S : Sound c) where
         some (p ∷ q) d = omega arith
 
   -- The round and the flow whose turn it is are as a visit wants them.
-  module _ (at : ℕ) (e : at ≡ whose (viewRound (c .round))) where
+  module _ (at : ℕ) (e : at ≡ whose (viewRound (roundOf c))) where
     pub at-in-reach : at < flowLimit
     unfolding view
     at-in-reach = rw e (whose-in-reach (view c) (S .rules))
 
     turn-ready : (f allowed sent : ℕ) → c .round .turn ≡ Turn f allowed sent → TurnFacts (view c) f allowed sent → at ≡ f
-        → MayServe (c .round) (getD (c .flows) at noCell) allowed sent
+        → MayServe (roundOf c) (getD (c .flows) at noCell) allowed sent
     unfolding view viewRound
     turn-ready f allowed sent t T same =
         record {
@@ -145,13 +146,13 @@ module _ (c : State) (S : Sound c) where
           has-first = has-first-at at at-in-reach (rw same (T .waits));
           weighs = rw (weight-is at at-in-reach, same) (T .weighs);
           no-surplus = rw (surplus-is at at-in-reach, same) (T .no-surplus);
-          line-has-room = omega (arith, length-is (c .round) round-form, T .line-has-room);
+          line-has-room = omega (arith, length-is (roundOf c) round-form, T .line-has-room);
           a-visit-left = T .a-visit-left;
           allowed-in-range = T .allowed-in-range;
           more-may-be-sent = T .more-may-be-sent;
         }
 
-    head-ready : HeadFacts (view c) at → (c .round .length ≡ 0 → ⊥) → MayBegin (c .round) (getD (c .flows) at noCell)
+    head-ready : HeadFacts (view c) at → (c .round .length ≡ 0 → ⊥) → MayBegin (roundOf c) (getD (c .flows) at noCell)
     unfolding view
     head-ready H d =
         record {
@@ -162,37 +163,37 @@ module _ (c : State) (S : Sound c) where
           owed = rw (surplus-is at at-in-reach, weight-is at at-in-reach) (H .owed);
         }
 
-    pub may-visit : MayVisit (c .round) (getD (c .flows) at noCell)
+    pub may-visit : MayVisit (roundOf c) (getD (c .flows) at noCell)
     unfolding view viewRound
     may-visit =
         record {
           round-ready = round-of-sound;
           flow-form = cell-ready at at-in-reach .form;
           in-turn = λ f allowed sent t. turn-ready f allowed sent t (turn-facts (view c) (S .rules) f allowed sent t) (e ∙ ap (λ (u : Serving). whoseTurn u (view c .round .line)) t);
-          at-head = λ t d. head-ready (rw (e ∙ ap (λ (u : Serving). whoseTurn u (view c .round .line)) t) (head-facts (view c) (S .rules) t (omega (arith, length-is (c .round) round-form)))) d;
+          at-head = λ t d. head-ready (rw (e ∙ ap (λ (u : Serving). whoseTurn u (view c .round .line)) t) (head-facts (view c) (S .rules) t (omega (arith, length-is (roundOf c) round-form)))) d;
         }
 
-    module _ (v : Visited) (g : v ≡ encodeVisit (visit (viewRound (c .round)) (viewFlow (getD (c .flows) at noCell)))) where
-      visit-seen : v ≡ encodeVisit (nextVisit (view c))
+    module _ (v : Visited) (line : List ℕ) (g : heldVisit line v ≡ encodeVisit (visit (viewRound (roundOf c)) (viewFlow (getD (c .flows) at noCell)))) where
+      visit-seen : heldVisit line v ≡ encodeVisit (nextVisit (view c))
       unfolding view
       visit-seen =
           g
           ∙ ap (λ (y : Flow). encodeVisit (visit (view c .round) y)) (cell-seen at at-in-reach)
           ∙ ap (λ (k : ℕ). encodeVisit (visit (view c .round) (flowAt (view c) k))) e
 
-      pub departed-state : record { flows = set (c .flows) at (v .flow); round = v .round } ≡ encode (departed (view c) .state)
+      pub departed-state : record { flows = set (c .flows) at (v .flow); line = line; round = v .round } ≡ encode (departed (view c) .state)
       unfolding departed encodeVisit view
       departed-state =
-          put-law at (v .flow) (v .round) (nextVisit (view c) .flow) (nextVisit (view c) .round)
-          (ap (λ (k : Visited). k .flow) visit-seen)
-          (ap (λ (k : Visited). k .round) visit-seen)
+          put-law at (v .flow) line (v .round) (nextVisit (view c) .flow) (nextVisit (view c) .round)
+          (ap (λ (k : VisitHeld). k .flow) visit-seen)
+          (ap (λ (k : VisitHeld). k .round) visit-seen)
           ∙ ap (λ (k : ℕ). encode (put (view c) k (nextVisit (view c) .flow) (nextVisit (view c) .round))) e
 
       pub departed-reply : v .reply ≡ departed (view c) .reply
       unfolding departed encodeVisit
-      departed-reply = ap (λ (k : Visited). k .reply) visit-seen
+      departed-reply = ap (λ (k : VisitHeld). k .reply) visit-seen
 
-      pub departed-gives : DepartGives c (record { state = record { flows = set (c .flows) at (v .flow); round = v .round }; reply = v .reply })
+      pub departed-gives : DepartGives c (record { state = record { flows = set (c .flows) at (v .flow); line = line; round = v .round }; reply = v .reply })
       unfolding departedAs
       departed-gives =
           record {
@@ -247,24 +248,24 @@ module _ (c : State) (S : Sound c) where
             | no b ↦ refuses looked-at (omega arith) ∙ sym (refuses (flowAt (view c) f) (omega arith))
           ]
 
-      module _ (a : Asked) (x : Flow) (i : x ≡ looked-at) (g : a .flow ≡ encodeFlow (ifZero (ρ x) (flow x) x))
-          (h : a .round ≡ encodeRound (ifZero (ρ x) (round x) (view c .round))) (k : a .answer ≡ answerOf (ρ x)) where
-        asked-state : record { flows = set (c .flows) at (a .flow); round = a .round }
+      module _ (cell : FlowCell) (line : List ℕ) (r : RoundCell) (answer : Answer) (x : Flow) (i : x ≡ looked-at)
+          (g : cell ≡ encodeFlow (ifZero (ρ x) (flow x) x)) (h : held line r ≡ encodeRound (ifZero (ρ x) (round x) (view c .round))) (k : answer ≡ answerOf (ρ x)) where
+        asked-state : record { flows = set (c .flows) at cell; line = line; round = r }
             ≡ encode (unlessRefused (ρ (flowAt (view c) f)) (view c) (put (view c) f (flow (flowAt (view c) f)) (round (flowAt (view c) f))) .state)
         unfolding unlessRefused
         asked-state =
-            put-law at (a .flow) (a .round) (ifZero (ρ x) (flow x) x) (ifZero (ρ x) (round x) (view c .round)) g h
+            put-law at cell line r (ifZero (ρ x) (flow x) x) (ifZero (ρ x) (round x) (view c .round)) g h
             ∙ ap encode
             (ap (λ (y : Flow). put (view c) at (ifZero (ρ y) (flow y) y) (ifZero (ρ y) (round y) (view c .round))) i
             ∙ put-unless (ρ looked-at) (flow looked-at) (round looked-at) effect-here
             ∙ same-effect)
 
-        asked-answer : a .answer
+        asked-answer : answer
             ≡ unlessRefused (ρ (flowAt (view c) f)) (view c) (put (view c) f (flow (flowAt (view c) f)) (round (flowAt (view c) f))) .reply
         unfolding unlessRefused
         asked-answer = k ∙ ap (λ (y : Flow). answerOf (ρ y)) i ∙ ap answerOf same-number
 
-        asked-outcome : record { state = record { flows = set (c .flows) at (a .flow); round = a .round }; answer = a .answer }
+        asked-outcome : record { state = record { flows = set (c .flows) at cell; line = line; round = r }; answer = answer }
             ≡ answeredAs (unlessRefused (ρ (flowAt (view c) f)) (view c) (put (view c) f (flow (flowAt (view c) f)) (round (flowAt (view c) f))))
         unfolding answeredAs
         asked-outcome = ap₂ (λ (t : State) (d : Answer). record { state = t; answer = d }) asked-state asked-answer
@@ -272,8 +273,8 @@ module _ (c : State) (S : Sound c) where
     no-such-flow : (rest : ℕ) → flowLimit ≤ f → cond (leb flowLimit f) 1 rest ≡ 1
     no-such-flow rest h = ap (λ (t : Bool). cond t 1 rest) (le-leb flowLimit f h)
 
-    pub opened-gives : (weight : ℕ) (a : Asked) → a ≡ openedParts (c .round) (getD (c .flows) at noCell) f weight
-        → OpenGives c f weight (record { state = record { flows = set (c .flows) at (a .flow); round = a .round }; answer = a .answer })
+    pub opened-gives : (weight : ℕ) (a : Opened) → a ≡ openedParts (getD (c .flows) at noCell) f weight
+        → OpenGives c f weight (record { state = record { flows = set (c .flows) at (a .flow); line = c .line; round = c .round }; answer = a .answer })
     unfolding openedParts view opened answeredAs
     opened-gives weight a g =
         record {
@@ -288,27 +289,28 @@ module _ (c : State) (S : Sound c) where
         either zero r = refl
         either (suc n) r = refl
 
-        outcome-here : record { state = record { flows = set (c .flows) at (a .flow); round = a .round }; answer = a .answer } ≡ answeredAs (opened (view c) f weight)
+        outcome-here : record { state = record { flows = set (c .flows) at (a .flow); line = c .line; round = c .round }; answer = a .answer }
+            ≡ answeredAs (opened (view c) f weight)
         outcome-here =
             asked-outcome (openRefusal f weight) (λ y h. no-such-flow _ h) (λ y. openFlow weight) (λ y. view c .round)
-            a x (cell-seen at place-in-reach)
-            (ap (λ (k : Asked). k .flow) g)
-            (ap (λ (k : Asked). k .round) g ∙ round-form ∙ ap encodeRound (sym (either (openRefusal f weight x) (view c .round))))
-            (ap (λ (k : Asked). k .answer) g)
+            (a .flow) (c .line) (c .round) (a .answer) x (cell-seen at place-in-reach)
+            (ap (λ (k : Opened). k .flow) g)
+            (round-form ∙ ap encodeRound (sym (either (openRefusal f weight x) (view c .round))))
+            (ap (λ (k : Opened). k .answer) g)
 
     pub room-in-line : f < flowLimit → getD (c .flows) at noCell .waiting ≡ 0 → c .round .length < flowLimit
     unfolding view
     room-in-line b z =
-        omega (arith, length-is (c .round) round-form, room-for-another (view c) (S .rules) at place-in-reach (nothing (flowAt (view c) at .queue) (sym (count-is at place-in-reach) ∙ z)))
+        omega (arith, length-is (roundOf c) round-form, room-for-another (view c) (S .rules) at place-in-reach (nothing (flowAt (view c) at .queue) (sym (count-is at place-in-reach) ∙ z)))
       where
         nothing : (q : List ℕ) → length q ≡ 0 → q ≡ []
         nothing [] e = refl
         nothing (p ∷ q) e = absurd (omega arith)
 
-    pub offered-gives : (size : ℕ) (a : Asked) → a ≡ offeredParts (c .round) (getD (c .flows) at noCell) f size
-        → OfferGives c f size (record { state = record { flows = set (c .flows) at (a .flow); round = a .round }; answer = a .answer })
+    pub offered-gives : (size : ℕ) (o : Offered) (line : List ℕ) → heldOffer line (c .round) o ≡ offeredParts (roundOf c) (getD (c .flows) at noCell) f size
+        → OfferGives c f size (record { state = record { flows = set (c .flows) at (o .flow); line = line; round = withLength (c .round) (o .length) }; answer = o .answer })
     unfolding offeredParts view offered answeredAs
-    offered-gives size a g =
+    offered-gives size o line g =
         record {
           outcome = outcome-here;
           sound = subst (λ (r : Answered). Sound (r .state)) (sym outcome-here) (sound-of (offered (view c) f size .state) (offered-keeps (view c) f size (S .rules)));
@@ -317,11 +319,12 @@ module _ (c : State) (S : Sound c) where
         x : Flow
         x = viewFlow (getD (c .flows) at noCell)
 
-        outcome-here : record { state = record { flows = set (c .flows) at (a .flow); round = a .round }; answer = a .answer } ≡ answeredAs (offered (view c) f size)
+        outcome-here : record { state = record { flows = set (c .flows) at (o .flow); line = line; round = withLength (c .round) (o .length) }; answer = o .answer }
+            ≡ answeredAs (offered (view c) f size)
         outcome-here =
             asked-outcome (offerRefusal f size) (λ y h. no-such-flow _ h) (λ y. packetJoined y size) (λ y. flowLined (view c .round) f y)
-            a x (cell-seen at place-in-reach)
-            (ap (λ (k : Asked). k .flow) g) (ap (λ (k : Asked). k .round) g) (ap (λ (k : Asked). k .answer) g)
+            (o .flow) line (withLength (c .round) (o .length)) (o .answer) x (cell-seen at place-in-reach)
+            (ap (λ (k : OfferHeld). k .flow) g) (ap (λ (k : OfferHeld). k .round) g) (ap (λ (k : OfferHeld). k .answer) g)
 
 pub new-gives : GivesNew (encode newScheduler)
 new-gives = record { outcome = refl; sound = sound-of newScheduler new-keeps }

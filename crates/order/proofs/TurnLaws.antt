@@ -6,7 +6,7 @@ use mathlib.Core.Bool.{Bool, true, false}
 use native.Mathlib.Omega.{arith}
 use lib.ListN.{length, getD, drop, length-drop}
 use lib.Dec.{leb}
-use borrow.Author.Tests.{leb-true}
+use borrow.Author.Tests.{le-leb, lt-leb}
 use Rattle.err.specs.Limits.{flowLimit, markLimit, sizeLimit, allowanceLimit}
 use Rattle.err.specs.Model.{Flow, Round}
 use Rattle.err.specs.Rules.{FlowRules}
@@ -16,13 +16,11 @@ use Rattle.err.specs.declared.Reply.the-variants.{Departure, Idle}
 use Rattle.err.specs.declared.Serving.{Serving}
 use Rattle.err.specs.declared.Serving.the-variants.{NoTurn, Turn}
 use Rattle.err.proofs.Flows.{left-flow-rules, cleared-flow-rules}
-use Rattle.order.specs.Encoding.{encodeFlow, encodeRound, encodeVisit, viewRound, viewFlow}
-use Rattle.order.specs.Premises.{FlowReady, RoundReady, HasFirst, MayServe, MayBegin, MayVisit}
+use Rattle.order.specs.Encoding.{RoundHeld, encodeFlow, encodeRound, viewRound, viewFlow}
+use Rattle.order.specs.Premises.{FlowReady, RoundReady, HasFirst, MayServe, MayBegin, MayVisit, VisitHeld, encodeVisit}
 use Rattle.order.specs.declared.FlowCell.{FlowCell}
-use Rattle.order.specs.declared.RoundCell.{RoundCell}
-use Rattle.order.specs.declared.Visited.{Visited}
 use Rattle.order.proofs.Encoded.{flow-seen, flow-ready, round-seen, round-ready, waiting-is, line-is, length-is}
-use Rattle.order.proofs.FlowLaws.{first-size-small}
+use Rattle.order.proofs.FlowLaws.{empty-by-count, waiting-by-count, nothing-kept, first-size-small}
 
 -- A flow without surplus keeps its rules when its first packet leaves.
 left-rules-parts : (w k : ℕ) (q : List ℕ) → FlowRules (record { weight = w; surplus = 0; slot = k; queue = q }) → 0 < length q
@@ -37,21 +35,16 @@ left-rules x R z h =
     ap (λ (σ : ℕ). record { weight = x .weight; surplus = σ; slot = x .slot; queue = x .queue }) z in
     subst (λ (y : Flow). FlowRules (firstLeft y)) (sym e) (left-rules-parts (x .weight) (x .slot) (x .queue) (subst FlowRules e R) h)
 
--- With packets left, a turn ends only by the allowance.
-ends-by-allowance : (q : List ℕ) (allowed sent : ℕ) → 0 < length q → turnEnds allowed sent q ≡ true → allowed ≤ sent
-ends-by-allowance [] allowed sent h e = absurd (omega arith)
-ends-by-allowance (p ∷ q) allowed sent h e = leb-true allowed sent e
-
 -- Two visits with equal parts are equal.
-pub same-visit : {r r′ : RoundCell} {x x′ : FlowCell} {d d′ : Reply} → r ≡ r′ → x ≡ x′ → d ≡ d′
-    → _≡_ {A = Visited} (record { round = r; flow = x; reply = d }) (record { round = r′; flow = x′; reply = d′ })
+pub same-visit : {r r′ : RoundHeld} {x x′ : FlowCell} {d d′ : Reply} → r ≡ r′ → x ≡ x′ → d ≡ d′
+    → _≡_ {A = VisitHeld} (record { round = r; flow = x; reply = d }) (record { round = r′; flow = x′; reply = d′ })
 same-visit a b c = λ i. record { round = a i; flow = b i; reply = c i }
 
 -- A departure as the code makes it, and as the model tells it.
 abbrev departure : ℕ → ℕ → ℕ → ℕ → Reply
 departure f size mark allowed = Departure (record { flow = f; size = size; mark = mark; allowance = allowed })
 
-module _ (r : RoundCell) (x : FlowCell) (allowed sent : ℕ) (h : MayServe r x allowed sent) where
+module _ (r : RoundHeld) (x : FlowCell) (allowed sent : ℕ) (h : MayServe r x allowed sent) where
   left-rules-here : FlowRules (firstLeft (viewFlow x))
   unfolding viewFlow
   left-rules-here =
@@ -72,33 +65,49 @@ module _ (r : RoundCell) (x : FlowCell) (allowed sent : ℕ) (h : MayServe r x a
     unfolding encodeFlow firstLeft viewFlow
     left-weighs = rw e (h .weighs)
 
-    pub excess-fits : (size : ℕ) → size ≡ firstSize (viewFlow x) → turnEnds allowed (sent + size) (viewFlow left .queue) ≡ true
-        → 0 < left .waiting → (allowed ≤ sent + size) × (sent + size - allowed < sizeLimit)
-    excess-fits size s ends some =
-        let enough : allowed ≤ sent + size =
-        ends-by-allowance (viewFlow left .queue) allowed (sent + size) (omega (arith, waiting-is left (left-ready .form))) ends in
-        (enough, omega (arith, first-size-small x (h .has-first), h .more-may-be-sent))
+    -- Whether the turn ends shows in how many wait and in what is sent.
+    ends-with-none : (n : ℕ) → left .waiting ≡ 0 → turnEnds allowed n (viewFlow left .queue) ≡ true
+    ends-with-none n none = empty-by-count (viewFlow left .queue) true (leb allowed n) (sym (waiting-is left (left-ready .form)) ∙ none)
+
+    ends-by-allowance : (n : ℕ) → (left .waiting ≡ 0 → ⊥) → turnEnds allowed n (viewFlow left .queue) ≡ leb allowed n
+    ends-by-allowance n some = waiting-by-count (viewFlow left .queue) true (leb allowed n) (λ e. some (waiting-is left (left-ready .form) ∙ e))
 
     module _ (f size : ℕ) (s : size ≡ firstSize (viewFlow x)) where
       ends-seen : turnEnds allowed (sent + size) (viewFlow left .queue) ≡ turnEnds allowed (sent + firstSize (viewFlow x)) (drop 1 (viewFlow x .queue))
       unfolding firstLeft
       ends-seen = rw (left-seen, s)
 
-      pub closed-law : (round : RoundCell) (flow : FlowCell) → turnEnds allowed (sent + size) (viewFlow left .queue) ≡ true
+      ended : (round : RoundHeld) (flow : FlowCell) → turnEnds allowed (sent + size) (viewFlow left .queue) ≡ true
           → round ≡ encodeRound (turnClosed (viewRound r) (viewFlow left) f allowed (sent + size))
           → flow ≡ encodeFlow (excessKept (viewFlow left) allowed (sent + size))
           → record { round = round; flow = flow; reply = departure f size (r .mark) allowed }
           ≡ encodeVisit (served (viewRound r) (viewFlow x) f allowed sent)
       unfolding served settled encodeVisit viewRound
-      closed-law round flow ends a b =
+      ended round flow ends a b =
           rw (sym ends-seen ∙ ends)
           (same-visit (a ∙ rw (left-seen, s)) (b ∙ rw (left-seen, s)) (ap (λ (n : ℕ). departure f n (r .mark) allowed) s))
 
-      pub open-law : (round : RoundCell) → turnEnds allowed (sent + size) (viewFlow left .queue) ≡ false
+      -- The turn ends with nothing waiting, with packets waiting, or not yet.
+      pub emptied-visit : (round : RoundHeld) (flow : FlowCell) → left .waiting ≡ 0
+          → round ≡ encodeRound (turnClosed (viewRound r) (viewFlow left) f allowed (sent + size))
+          → flow ≡ encodeFlow (surplusCleared (viewFlow left))
+          → record { round = round; flow = flow; reply = departure f size (r .mark) allowed }
+          ≡ encodeVisit (served (viewRound r) (viewFlow x) f allowed sent)
+      emptied-visit round flow none a b =
+          ended round flow (ends-with-none (sent + size) none) a (b ∙ nothing-kept left left-ready allowed (sent + size) none)
+
+      pub closed-visit : (round : RoundHeld) (flow : FlowCell) → (left .waiting ≡ 0 → ⊥) → allowed ≤ sent + size
+          → round ≡ encodeRound (turnClosed (viewRound r) (viewFlow left) f allowed (sent + size))
+          → flow ≡ encodeFlow (excessKept (viewFlow left) allowed (sent + size))
+          → record { round = round; flow = flow; reply = departure f size (r .mark) allowed }
+          ≡ encodeVisit (served (viewRound r) (viewFlow x) f allowed sent)
+      closed-visit round flow some enough a b = ended round flow (ends-by-allowance (sent + size) some ∙ le-leb allowed (sent + size) enough) a b
+
+      pub open-visit : (round : RoundHeld) → (left .waiting ≡ 0 → ⊥) → (allowed ≤ sent + size → ⊥)
           → round ≡ encodeRound (turnKept (viewRound r) f allowed (sent + size))
           → record { round = round; flow = left; reply = departure f size (r .mark) allowed }
           ≡ encodeVisit (served (viewRound r) (viewFlow x) f allowed sent)
       unfolding served settled encodeVisit viewRound
-      open-law round ends a =
-          rw (sym ends-seen ∙ ends)
+      open-visit round some more a =
+          rw (sym ends-seen ∙ ends-by-allowance (sent + size) some ∙ lt-leb allowed (sent + size) (omega arith))
           (same-visit (a ∙ rw s) e (ap (λ (n : ℕ). departure f n (r .mark) allowed) s))

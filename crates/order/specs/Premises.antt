@@ -1,16 +1,22 @@
--- What the private functions may count on, which every public call shows from `Sound`; and what open and offer make of the two parts they concern.
-use Prim.Native.Nat.{ℕ, _*_, _≤_, _<_}
+-- What the private functions may count on, which every public call shows from `Sound`; and how what they make of the parts of a state is told.
+use Prim.Native.Nat.{ℕ, _+_, _*_, _≤_, _<_}
 use mathlib.Core.Path.{_≡_}
+use mathlib.Core.List.{List}
 use Rattle.err.specs.Limits.{sizeLimit, queueLimit, flowLimit, markLimit, allowanceLimit}
+use Rattle.err.specs.Model.{Round}
 use Rattle.err.specs.Rules.{FlowRules}
 use Rattle.err.specs.Choose.{ifZero}
 use Rattle.err.specs.Calls.{openRefusal, offerRefusal, openFlow, answerOf}
-use Rattle.err.specs.Steps.{roundStarted, packetJoined, flowLined}
+use Rattle.err.specs.Steps.{Visit, roundStarted, packetJoined, flowLined}
+use Rattle.err.specs.declared.Answer.{Answer}
+use Rattle.err.specs.declared.Reply.{Reply}
 use Rattle.err.specs.declared.Serving.the-variants.{NoTurn, Turn}
-use Rattle.order.specs.Encoding.{encodeFlow, viewFlow, encodeRound, viewRound}
-use Rattle.order.specs.declared.Asked.{Asked}
+use Rattle.order.specs.Encoding.{RoundHeld, held, encodeFlow, viewFlow, encodeRound, viewRound}
 use Rattle.order.specs.declared.FlowCell.{FlowCell}
+use Rattle.order.specs.declared.Offered.{Offered}
+use Rattle.order.specs.declared.Opened.{Opened}
 use Rattle.order.specs.declared.RoundCell.{RoundCell}
+use Rattle.order.specs.declared.Visited.{Visited}
 
 -- The flow is one of a sound state.
 pub record FlowReady (x : FlowCell) : Type 0 where
@@ -31,15 +37,19 @@ pub record HasRoom (x : FlowCell) (size : ℕ) : Type 0 where
   pub size-positive : 1 ≤ size
   pub size-small : size ≤ sizeLimit
 
+-- In a turn fewer bytes are sent than this.
+abbrev pub sentLimit : ℕ
+sentLimit = allowanceLimit + sizeLimit
+
 -- The round is one of a sound state.
-pub record RoundReady (r : RoundCell) : Type 0 where
+pub record RoundReady (r : RoundHeld) : Type 0 where
   pub form : r ≡ encodeRound (viewRound r)
   pub line-fits : r .length ≤ flowLimit
   pub mark-in-range : r .mark ≤ markLimit
   pub running-in-range : r .running ≤ markLimit
 
 -- A turn of the flow is open in which more may be sent.
-pub record MayServe (r : RoundCell) (x : FlowCell) (allowed sent : ℕ) : Type 0 where
+pub record MayServe (r : RoundHeld) (x : FlowCell) (allowed sent : ℕ) : Type 0 where
   pub round-ready : RoundReady r
   pub has-first : HasFirst x
   pub weighs : 1 ≤ x .weight
@@ -50,28 +60,56 @@ pub record MayServe (r : RoundCell) (x : FlowCell) (allowed sent : ℕ) : Type 0
   pub more-may-be-sent : sent < allowed
 
 -- The flow is at the head of the line, and owes no more than the mark of the round in which its turn opens covers.
-pub record MayBegin (r : RoundCell) (x : FlowCell) : Type 0 where
+pub record MayBegin (r : RoundHeld) (x : FlowCell) : Type 0 where
   pub round-ready : RoundReady r
   pub some-in-line : 0 < r .length
   pub has-first : HasFirst x
   pub weighs : 1 ≤ x .weight
   pub owed : x .surplus ≤ x .weight * roundStarted (viewRound r) .mark
 
-pub record MayVisit (r : RoundCell) (x : FlowCell) : Type 0 where
+pub record MayVisit (r : RoundHeld) (x : FlowCell) : Type 0 where
   pub round-ready : RoundReady r
   pub flow-form : x ≡ encodeFlow (viewFlow x)
   pub in-turn : (f allowed sent : ℕ) → r .turn ≡ Turn f allowed sent → MayServe r x allowed sent
   pub at-head : r .turn ≡ NoTurn → (r .length ≡ 0 → ⊥) → MayBegin r x
 
-unfoldable pub openedParts : RoundCell → FlowCell → ℕ → ℕ → Asked
-openedParts r x f weight =
+-- A step that leaves the line alone gives these numbers, whatever line lies beside them.
+abbrev pub StepGives : RoundCell → (Round → Round) → RoundCell → Type 0
+StepGives r step c = (line : List ℕ) → RoundReady (held line r) → held line c ≡ encodeRound (step (viewRound (held line r)))
+
+-- What a departure call makes of a round and a flow, as code keeps them, with its reply.
+pub record VisitHeld : Type 0 where
+  pub round : RoundHeld
+  pub flow : FlowCell
+  pub reply : Reply
+
+unfoldable pub encodeVisit : Visit → VisitHeld
+encodeVisit v = record { round = encodeRound (v .round); flow = encodeFlow (v .flow); reply = v .reply }
+
+abbrev pub heldVisit : List ℕ → Visited → VisitHeld
+heldVisit line v = record { round = held line (v .round); flow = v .flow; reply = v .reply }
+
+-- What open makes of the flow that it concerns.
+unfoldable pub openedParts : FlowCell → ℕ → ℕ → Opened
+openedParts x f weight =
     record {
-      round = r;
       flow = encodeFlow (ifZero (openRefusal f weight (viewFlow x)) (openFlow weight) (viewFlow x));
       answer = answerOf (openRefusal f weight (viewFlow x));
     }
 
-unfoldable pub offeredParts : RoundCell → FlowCell → ℕ → ℕ → Asked
+-- What offer makes of the round and of the flow that it concerns; of the round's numbers only the line's length may change.
+pub record OfferHeld : Type 0 where
+  pub round : RoundHeld
+  pub flow : FlowCell
+  pub answer : Answer
+
+abbrev pub withLength : RoundCell → ℕ → RoundCell
+withLength r n = record { length = n; visits = r .visits; mark = r .mark; running = r .running; turn = r .turn }
+
+abbrev pub heldOffer : List ℕ → RoundCell → Offered → OfferHeld
+heldOffer line r o = record { round = held line (withLength r (o .length)); flow = o .flow; answer = o .answer }
+
+unfoldable pub offeredParts : RoundHeld → FlowCell → ℕ → ℕ → OfferHeld
 offeredParts r x f size =
     record {
       round = encodeRound (ifZero (offerRefusal f size (viewFlow x)) (flowLined (viewRound r) f (viewFlow x)) (viewRound r));

@@ -5,10 +5,12 @@ ghost use Prim.Native.Nat.{_<_};
 ghost use lib.Dec.{ltb};
 ghost use Rattle.err.specs.Limits.{flowLimit};
 ghost use Rattle.err.specs.Calls.{openRefusal, offerRefusal, answerOf};
-ghost use Rattle.order.specs.Encoding.{viewFlow};
-ghost use Rattle.order.specs.Premises.{FlowReady, RoundReady, openedParts, offeredParts};
-use crate::Asked;
+ghost use Rattle.order.specs.Encoding.{held, viewFlow};
+ghost use Rattle.order.specs.Premises.{FlowReady, RoundReady, openedParts, heldOffer, offeredParts};
 use crate::FlowCell;
+use crate::LINE_ROOM;
+use crate::Offered;
+use crate::Opened;
 use crate::RoundCell;
 use crate::flow;
 use crate::round;
@@ -69,52 +71,55 @@ fn offer_refusal(f: usize, size: usize, x: FlowCell) -> u8
     }
 }
 
-pub fn opened(r: RoundCell, x: FlowCell, f: usize, weight: usize) -> Asked
-    requires { ⌜ RoundReady r ⌝ }
+pub fn opened(x: FlowCell, f: usize, weight: usize) -> Opened
     requires { ⌜ FlowReady x ⌝ }
-    ensures { λ a. ⌜ a ≡ openedParts r x f weight ⌝ }
+    ensures { λ a. ⌜ a ≡ openedParts x f weight ⌝ }
 {
     let refusal = open_refusal(f, weight, x);
     if refusal == 0 {
         let fresh = FlowCell {
-            weight: weight as u8,
+            weight: weight as u16,
             surplus: 0,
             slot: 0,
             waiting: 0,
             sizes: 0,
         };
-        Asked {
-            round: r,
+        Opened {
             flow: fresh,
             answer: Answer::Done,
         }
     } else {
-        Asked {
-            round: r,
+        Opened {
             flow: x,
             answer: Answer::Refused(refusal),
         }
     }
 }
 
-pub fn offered(r: RoundCell, x: FlowCell, f: usize, size: usize) -> Asked
-    requires { ⌜ RoundReady r ⌝ }
+pub fn offered(
+    line: &mut [u8; LINE_ROOM],
+    r: RoundCell,
+    x: FlowCell,
+    f: usize,
+    size: usize,
+) -> Offered
+    requires { ⌜ RoundReady (held (now line) r) ⌝ }
     requires { ⌜ FlowReady x ⌝ }
     requires { ⌜ (f < flowLimit → x .waiting ≡ 0 → r .length < flowLimit) ⌝ }
-    ensures { λ a. ⌜ a ≡ offeredParts r x f size ⌝ }
+    ensures { λ o. ⌜ heldOffer (now (line .exit)) r o ≡ offeredParts (held (now (line .entry)) r) x f size ⌝ }
 {
     let refusal = offer_refusal(f, size, x);
     if refusal == 0 {
-        let line = round::lined(r, f as u8, x);
+        let length = round::lined(line, r, f as u8, x);
         let queue = flow::joined(x, size);
-        Asked {
-            round: line,
+        Offered {
+            length: length,
             flow: queue,
             answer: Answer::Done,
         }
     } else {
-        Asked {
-            round: r,
+        Offered {
+            length: r.length,
             flow: x,
             answer: Answer::Refused(refusal),
         }

@@ -12,24 +12,12 @@ use err::SIZE_LIMIT;
 // The waiting packets' sizes, each less one, are the digits of a number in this base.
 const BASE: u64 = SIZE_LIMIT as u64;
 
-// The powers of the base, by which a digit counts at each place.
-const PLACES: [u64; 8] = [
-    1,
-    1 << 8,
-    1 << 16,
-    1 << 24,
-    1 << 32,
-    1 << 40,
-    1 << 48,
-    1 << 56,
-];
-
-// What a digit counts at a place.
-fn place(at: usize) -> u64
+// What a digit at a place of that number is worth.
+fn worth(at: usize) -> u64
     requires { ⌜ at < queueLimit ⌝ }
     ensures { λ r. ⌜ r ≡ sizeLimit ^ at ⌝ }
 {
-    PLACES[at]
+    1 << (8 * at)
 }
 
 // Step 1: a packet of this size joins the end of the queue.
@@ -38,7 +26,7 @@ pub fn joined(x: FlowCell, size: usize) -> FlowCell
     ensures { λ r. ⌜ r ≡ encodeFlow (packetJoined (viewFlow x) size) ⌝ }
 {
     let at = x.waiting as usize;
-    let sizes = x.sizes + place(at) * (size - 1) as u64;
+    let sizes = x.sizes + worth(at) * (size - 1) as u64;
     if at == 0 {
         FlowCell {
             weight: x.weight,
@@ -94,27 +82,17 @@ pub fn first_left(x: FlowCell) -> FlowCell
     }
 }
 
-// Step 6: with packets waiting the surplus is the excess, with none it is 0.
+// Step 6: with packets waiting the surplus is the excess.
 pub fn excess_kept(x: FlowCell, allowed: u16, sent: u16) -> FlowCell
     requires { ⌜ FlowReady x ⌝ }
-    requires { ⌜ (0 < x .waiting → (allowed ≤ sent) × (sent - allowed < sizeLimit)) ⌝ }
+    requires { ⌜ (0 < x .waiting) × (allowed ≤ sent) ⌝ }
     ensures { λ r. ⌜ r ≡ encodeFlow (excessKept (viewFlow x) allowed sent) ⌝ }
 {
-    if x.waiting == 0 {
-        FlowCell {
-            weight: x.weight,
-            surplus: 0,
-            slot: x.slot,
-            waiting: x.waiting,
-            sizes: x.sizes,
-        }
-    } else {
-        FlowCell {
-            weight: x.weight,
-            surplus: (sent - allowed) as u8,
-            slot: x.slot,
-            waiting: x.waiting,
-            sizes: x.sizes,
-        }
+    FlowCell {
+        weight: x.weight,
+        surplus: sent - allowed,
+        slot: x.slot,
+        waiting: x.waiting,
+        sizes: x.sizes,
     }
 }

@@ -14,18 +14,20 @@ mod flow;
 mod round;
 mod turn;
 
+// The line has one cell more than there are flows, always 0, so that taking the head out is one move of whole words.
+pub const LINE_ROOM: usize = FLOW_LIMIT + 1;
+
 // One flow: the sizes of its waiting packets, each less one so that 256 fits a byte, are the digits of one number in base 256, the first packet's lowest.
 pub struct FlowCell {
-    pub weight: u8,
-    pub surplus: u8,
+    pub weight: u16,
+    pub surplus: u16,
     pub slot: u8,
     pub waiting: u8,
     pub sizes: u64,
 }
 
-// The round: the flow numbers of the line lie in the first cells.
+// The round's numbers; `length` tells how many flows stand in the line.
 pub struct RoundCell {
-    pub line: [u8; FLOW_LIMIT],
     pub length: u8,
     pub visits: u8,
     pub mark: u16,
@@ -33,22 +35,29 @@ pub struct RoundCell {
     pub turn: Serving,
 }
 
-// The scheduler's state.
+// The scheduler's state. The flow numbers of the line lie in the first cells.
 pub struct State {
     pub flows: [FlowCell; FLOW_LIMIT],
+    pub line: [u8; LINE_ROOM],
     pub round: RoundCell,
 }
 
-// What a departure call makes of the round and of the flow whose turn it is, with its reply.
+// What a departure call makes of the round's numbers and of the flow whose turn it is, with its reply.
 struct Visited {
     pub round: RoundCell,
     pub flow: FlowCell,
     pub reply: Reply,
 }
 
-// What open and offer make of the round and of the flow that they concern, with their answer.
-struct Asked {
-    pub round: RoundCell,
+// What open makes of the flow that it concerns, with its answer.
+struct Opened {
+    pub flow: FlowCell,
+    pub answer: Answer,
+}
+
+// What offer makes of the line's length and of the flow that it concerns, with its answer.
+struct Offered {
+    pub length: u8,
     pub flow: FlowCell,
     pub answer: Answer,
 }
@@ -69,6 +78,7 @@ pub struct Counted {
     pub count: Count,
 }
 
+// A call changes the state that it was handed in place, and hands it back: that costs the fewest copies.
 impl State {
     pub fn new() -> State
         ensures { λ r. ⌜ GivesNew r ⌝ }
@@ -81,7 +91,6 @@ impl State {
             sizes: 0,
         };
         let round = RoundCell {
-            line: [0u8; FLOW_LIMIT],
             length: 0,
             visits: 0,
             mark: 0,
@@ -90,6 +99,7 @@ impl State {
         };
         State {
             flows: [closed; FLOW_LIMIT],
+            line: [0u8; LINE_ROOM],
             round: round,
         }
     }
@@ -100,71 +110,61 @@ impl State {
         State::new()
     }
 
-    pub fn open(self, f: usize, weight: usize) -> Answered
+    pub fn open(mut self, f: usize, weight: usize) -> Answered
         requires { ⌜ Sound self ⌝ }
         ensures { λ r. ⌜ OpenGives self f weight r ⌝ }
     {
-        let mut flows = self.flows;
-        let round = self.round;
         let at = ask::place(f);
-        let asked = ask::opened(round, flows[at], f, weight);
+        let asked = ask::opened(self.flows[at], f, weight);
         let flow = asked.flow;
-        flows[at] = flow;
-        let after = asked.round;
+        self.flows[at] = flow;
         let answer = asked.answer;
         Answered {
-            state: State {
-                flows: flows,
-                round: after,
-            },
+            state: self,
             answer: answer,
         }
     }
 
-    pub fn offer(self, f: usize, size: usize) -> Answered
+    pub fn offer(mut self, f: usize, size: usize) -> Answered
         requires { ⌜ Sound self ⌝ }
         ensures { λ r. ⌜ OfferGives self f size r ⌝ }
     {
-        let mut flows = self.flows;
-        let round = self.round;
         let at = ask::place(f);
-        let told = ask::offered(round, flows[at], f, size);
-        let flow = told.flow;
-        flows[at] = flow;
-        let after = told.round;
+        let round = self.round;
+        let flow = self.flows[at];
+        let told = ask::offered(&mut self.line, round, flow, f, size);
+        let queue = told.flow;
+        self.flows[at] = queue;
+        let length = told.length;
+        self.round.length = length;
         let answer = told.answer;
         Answered {
-            state: State {
-                flows: flows,
-                round: after,
-            },
+            state: self,
             answer: answer,
         }
     }
 
-    pub fn depart(self) -> Departed
+    pub fn depart(mut self) -> Departed
         requires { ⌜ Sound self ⌝ }
         ensures { λ r. ⌜ DepartGives self r ⌝ }
     {
-        let mut flows = self.flows;
         let round = self.round;
-        let at = turn::whose(round);
-        let gone = turn::visit(round, flows[at]);
+        let at = turn::whose(self.line[0], round);
+        let flow = self.flows[at];
+        let gone = turn::visit(&mut self.line, round, flow);
         let rest = gone.flow;
-        flows[at] = rest;
+        self.flows[at] = rest;
         let after = gone.round;
+        self.round = after;
         let reply = gone.reply;
         Departed {
-            state: State {
-                flows: flows,
-                round: after,
-            },
+            state: self,
             reply: reply,
         }
     }
 
     // Up to n departures, whose flow numbers go into the list from its start.
-    pub fn burst(self, n: usize, list: &mut [u8]) -> Counted
+    pub fn burst(mut self, n: usize, list: &mut [u8]) -> Counted
         requires { ⌜ Sound self ⌝ }
         ensures { λ r. ⌜ BurstGives self n (now (list .entry)) (now (list .exit)) r ⌝ }
     {
@@ -174,36 +174,35 @@ impl State {
                 count: Count::Refused(LIST_SHORT),
             };
         }
-        let mut flows = self.flows;
+        let mut line = self.line;
         let mut round = self.round;
         let mut made = 0;
         while made < n {
-            let at = turn::whose(round);
-            let visited = turn::visit(round, flows[at]);
-            let flow = visited.flow;
-            flows[at] = flow;
+            let at = turn::whose(line[0], round);
+            let flow = self.flows[at];
+            let visited = turn::visit(&mut line, round, flow);
+            let rest = visited.flow;
+            self.flows[at] = rest;
             let after = visited.round;
             round = after;
             let reply = visited.reply;
             let Reply::Departure(sent) = reply else {
+                self.line = line;
+                self.round = round;
                 let fewer = Count::Made(made);
                 return Counted {
-                    state: State {
-                        flows: flows,
-                        round: round,
-                    },
+                    state: self,
                     count: fewer,
                 };
             };
             list[made] = sent.flow;
             made += 1;
         }
+        self.line = line;
+        self.round = round;
         let all = Count::Made(made);
         Counted {
-            state: State {
-                flows: flows,
-                round: round,
-            },
+            state: self,
             count: all,
         }
     }

@@ -1,51 +1,40 @@
-// What the steps do to the round.
+// What the steps do to the round. A step that changes the line has it lent; the round's numbers go by value.
 ghost use mathlib.Core.Path.{_≡_};
-ghost use Prim.Native.Nat.{_+_, _*_, _-_, _≤_, _<_};
+ghost use Prim.Native.Nat.{ℕ, _+_, _*_, _-_, _≤_, _<_, max};
 ghost use Rattle.err.specs.Limits.{weightLimit, markLimit, flowLimit};
-ghost use Rattle.err.specs.Steps.{flowLined, roundStarted, allowance as allowanceOf, turnOpened, turnEnds, turnKept, raised as raisedTo, turnClosed};
-ghost use Rattle.order.specs.Encoding.{viewFlow, viewRound, encodeRound};
-ghost use Rattle.order.specs.Premises.{FlowReady, RoundReady};
+ghost use Rattle.err.specs.Model.{Round};
+ghost use Rattle.err.specs.Steps.{flowLined, roundStarted, allowance as allowanceOf, turnOpened, turnKept, roundedUp, raised as raisedTo, turnClosed};
+ghost use Rattle.order.specs.Encoding.{held, viewFlow, viewRound, encodeRound};
+ghost use Rattle.order.specs.Premises.{FlowReady, RoundReady, StepGives, sentLimit, withLength};
 use crate::FlowCell;
+use crate::LINE_ROOM;
 use crate::RoundCell;
 use crate::cells::shift;
 use err::Serving;
 
-// Step 1: a flow that was not active goes to the end of the line.
-pub fn lined(r: RoundCell, f: u8, was: FlowCell) -> RoundCell
-    requires { ⌜ RoundReady r ⌝ }
+// Step 1: a flow that was not active goes to the end of the line; tells how long the line then is.
+pub fn lined(line: &mut [u8; LINE_ROOM], r: RoundCell, f: u8, was: FlowCell) -> u8
+    requires { ⌜ RoundReady (held (now line) r) ⌝ }
     requires { ⌜ FlowReady was ⌝ }
     requires { ⌜ (was .waiting ≡ 0 → r .length < flowLimit) ⌝ }
-    ensures { λ c. ⌜ c ≡ encodeRound (flowLined (viewRound r) f (viewFlow was)) ⌝ }
+    ensures { λ n. ⌜ held (now (line .exit)) (withLength r n) ≡ encodeRound (flowLined (viewRound (held (now (line .entry)) r)) f (viewFlow was)) ⌝ }
 {
-    let mut line = r.line;
-    let turn = r.turn;
-    let visits = r.visits;
     if was.waiting == 0 {
         let at = r.length as usize;
         line[at] = f;
-        RoundCell {
-            line: line,
-            length: r.length + 1,
-            visits: visits,
-            mark: r.mark,
-            running: r.running,
-            turn: turn,
-        }
+        r.length + 1
     } else {
-        r
+        r.length
     }
 }
 
 // Step 2: a round starts where no visit is left.
 pub fn started(r: RoundCell) -> RoundCell
-    requires { ⌜ RoundReady r ⌝ }
-    ensures { λ c. ⌜ c ≡ encodeRound (roundStarted (viewRound r)) ⌝ }
+    ensures { λ c. ⌜ StepGives r roundStarted c ⌝ }
 {
-    let line = r.line;
     let turn = r.turn;
     if r.visits == 0 {
         RoundCell {
-            line: line,
             length: r.length,
             visits: r.length,
             mark: r.running,
@@ -58,23 +47,21 @@ pub fn started(r: RoundCell) -> RoundCell
 }
 
 // Step 2: the allowance.
-pub fn allowance(weight: u8, mark: u16, surplus: u8) -> u16
+pub fn allowance(weight: u16, mark: u16, surplus: u16) -> u16
     requires { ⌜ (weight ≤ weightLimit) × (mark ≤ markLimit) × (surplus ≤ weight * mark) ⌝ }
     ensures { λ a. ⌜ a ≡ allowanceOf weight mark surplus ⌝ }
 {
-    weight as u16 * (1 + mark) - surplus as u16
+    weight * (1 + mark) - surplus
 }
 
 // Step 2: the head leaves the line and opens a turn.
-pub fn turn_opened(r: RoundCell, f: u8, allowed: u16) -> RoundCell
-    requires { ⌜ RoundReady r ⌝ }
+pub fn turn_opened(line: &mut [u8; LINE_ROOM], r: RoundCell, f: u8, allowed: u16) -> RoundCell
+    requires { ⌜ RoundReady (held (now line) r) ⌝ }
     requires { ⌜ 0 < r .length ⌝ }
-    ensures { λ c. ⌜ c ≡ encodeRound (turnOpened (viewRound r) f allowed) ⌝ }
+    ensures { λ c. ⌜ held (now (line .exit)) c ≡ encodeRound (turnOpened (viewRound (held (now (line .entry)) r)) f allowed) ⌝ }
 {
-    let mut line = r.line;
-    shift(&mut line);
+    shift(line);
     RoundCell {
-        line: line,
         length: r.length - 1,
         visits: r.visits,
         mark: r.mark,
@@ -83,26 +70,11 @@ pub fn turn_opened(r: RoundCell, f: u8, allowed: u16) -> RoundCell
     }
 }
 
-// Step 4: whether the turn ends.
-pub fn turn_ends(x: FlowCell, allowed: u16, sent: u16) -> bool
-    requires { ⌜ FlowReady x ⌝ }
-    ensures { λ b. ⌜ b ≡ turnEnds allowed sent (viewFlow x .queue) ⌝ }
-{
-    if x.waiting == 0 {
-        true
-    } else {
-        allowed <= sent
-    }
-}
-
 // Step 4: the turn stays open.
 pub fn turn_kept(r: RoundCell, f: u8, allowed: u16, sent: u16) -> RoundCell
-    requires { ⌜ RoundReady r ⌝ }
-    ensures { λ c. ⌜ c ≡ encodeRound (turnKept (viewRound r) f allowed sent) ⌝ }
+    ensures { λ c. ⌜ StepGives r (λ (q : Round). turnKept q f allowed sent) c ⌝ }
 {
-    let line = r.line;
     RoundCell {
-        line: line,
         length: r.length,
         visits: r.visits,
         mark: r.mark,
@@ -111,48 +83,70 @@ pub fn turn_kept(r: RoundCell, f: u8, allowed: u16, sent: u16) -> RoundCell
     }
 }
 
-// Step 5: the running mark, raised to the excess by weight, rounded up.
-pub fn raised(running: u16, weight: u8, allowed: u16, sent: u16) -> u16
-    requires { ⌜ (1 ≤ weight) × (sent < 32768) ⌝ }
-    ensures { λ m. ⌜ m ≡ raisedTo running weight allowed sent ⌝ }
+// Step 5: the running mark, raised to this excess by weight, rounded up. Mostly it is high enough, and nothing is divided.
+fn raised_to(running: u16, weight: u16, excess: u16) -> u16
+    requires { ⌜ (1 ≤ weight) × (weight ≤ weightLimit) × (running ≤ markLimit) × (excess < sentLimit) ⌝ }
+    ensures { λ m. ⌜ m ≡ max running (roundedUp excess weight) ⌝ }
 {
-    if allowed <= sent {
-        let w = weight as u16;
-        let up = (sent - allowed + (w - 1)) / w;
-        if running < up { up } else { running }
+    if running * weight < excess {
+        (excess + (weight - 1)) / weight
     } else {
         running
     }
 }
 
-// Steps 5 and 6: the turn ends, and with packets waiting the flow goes to the end of the line.
-pub fn turn_closed(r: RoundCell, left: FlowCell, f: u8, allowed: u16, sent: u16) -> RoundCell
-    requires { ⌜ RoundReady r ⌝ }
+// Step 5: the running mark, raised where the excess is 0 or more.
+fn raised(running: u16, weight: u16, allowed: u16, sent: u16) -> u16
+    requires { ⌜ (1 ≤ weight) × (weight ≤ weightLimit) × (running ≤ markLimit) × (sent < sentLimit) ⌝ }
+    ensures { λ m. ⌜ m ≡ raisedTo running weight allowed sent ⌝ }
+{
+    if allowed <= sent {
+        raised_to(running, weight, sent - allowed)
+    } else {
+        running
+    }
+}
+
+// Steps 5 and 6: the turn ends with nothing waiting, and the flow stays out of the line.
+pub fn turn_emptied(r: RoundCell, left: FlowCell, allowed: u16, sent: u16) -> RoundCell
     requires { ⌜ FlowReady left ⌝ }
-    requires { ⌜ (r .length < flowLimit) × (1 ≤ r .visits) × (1 ≤ left .weight) × (sent < 32768) ⌝ }
-    ensures { λ c. ⌜ c ≡ encodeRound (turnClosed (viewRound r) (viewFlow left) f allowed sent) ⌝ }
+    requires { ⌜ (1 ≤ r .visits) × (r .running ≤ markLimit) × (1 ≤ left .weight) × (sent < sentLimit) ⌝ }
+    requires { ⌜ left .waiting ≡ 0 ⌝ }
+    ensures { λ c. ⌜ ((f : ℕ) → StepGives r (λ (q : Round). turnClosed q (viewFlow left) f allowed sent) c) ⌝ }
 {
     let running = raised(r.running, left.weight, allowed, sent);
-    let mut line = r.line;
-    if left.waiting == 0 {
-        RoundCell {
-            line: line,
-            length: r.length,
-            visits: r.visits - 1,
-            mark: r.mark,
-            running: running,
-            turn: Serving::NoTurn,
-        }
-    } else {
-        let at = r.length as usize;
-        line[at] = f;
-        RoundCell {
-            line: line,
-            length: r.length + 1,
-            visits: r.visits - 1,
-            mark: r.mark,
-            running: running,
-            turn: Serving::NoTurn,
-        }
+    RoundCell {
+        length: r.length,
+        visits: r.visits - 1,
+        mark: r.mark,
+        running: running,
+        turn: Serving::NoTurn,
+    }
+}
+
+// Steps 5 and 6: the turn ends with packets waiting, and the flow goes to the end of the line.
+pub fn turn_closed(
+    line: &mut [u8; LINE_ROOM],
+    r: RoundCell,
+    left: FlowCell,
+    f: u8,
+    allowed: u16,
+    sent: u16,
+) -> RoundCell
+    requires { ⌜ RoundReady (held (now line) r) ⌝ }
+    requires { ⌜ FlowReady left ⌝ }
+    requires { ⌜ (r .length < flowLimit) × (1 ≤ r .visits) × (1 ≤ left .weight) × (allowed ≤ sent) × (sent < sentLimit) ⌝ }
+    requires { ⌜ 0 < left .waiting ⌝ }
+    ensures { λ c. ⌜ held (now (line .exit)) c ≡ encodeRound (turnClosed (viewRound (held (now (line .entry)) r)) (viewFlow left) f allowed sent) ⌝ }
+{
+    let at = r.length as usize;
+    line[at] = f;
+    let running = raised_to(r.running, left.weight, sent - allowed);
+    RoundCell {
+        length: r.length + 1,
+        visits: r.visits - 1,
+        mark: r.mark,
+        running: running,
+        turn: Serving::NoTurn,
     }
 }

@@ -1,10 +1,14 @@
 // Steps 2 to 6, on the round and the flow whose turn it is.
 ghost use mathlib.Core.Path.{_≡_};
+ghost use mathlib.Core.List.{List};
+ghost use lib.ListN.{getD};
+ghost use Prim.Native.Nat.{ℕ};
 ghost use Rattle.err.specs.Steps.{served as servedOf, visit as visitOf, visitBy, whose as whoseOf};
 ghost use Rattle.err.specs.declared.Serving.the-variants.{NoTurn};
-ghost use Rattle.order.specs.Encoding.{viewFlow, viewRound, encodeVisit};
-ghost use Rattle.order.specs.Premises.{RoundReady, MayServe, MayBegin, MayVisit};
+ghost use Rattle.order.specs.Encoding.{held, viewFlow, viewRound};
+ghost use Rattle.order.specs.Premises.{RoundReady, MayServe, MayBegin, MayVisit, heldVisit, encodeVisit};
 use crate::FlowCell;
+use crate::LINE_ROOM;
 use crate::RoundCell;
 use crate::Visited;
 use crate::flow;
@@ -14,9 +18,16 @@ use err::Sent;
 use err::Serving;
 
 // Steps 3 to 6, in an open turn of flow f.
-fn served(r: RoundCell, x: FlowCell, f: u8, allowed: u16, sent: u16) -> Visited
-    requires { ⌜ MayServe r x allowed sent ⌝ }
-    ensures { λ v. ⌜ v ≡ encodeVisit (servedOf (viewRound r) (viewFlow x) f allowed sent) ⌝ }
+fn served(
+    line: &mut [u8; LINE_ROOM],
+    r: RoundCell,
+    x: FlowCell,
+    f: u8,
+    allowed: u16,
+    sent: u16,
+) -> Visited
+    requires { ⌜ MayServe (held (now line) r) x allowed sent ⌝ }
+    ensures { λ v. ⌜ heldVisit (now (line .exit)) v ≡ encodeVisit (servedOf (viewRound (held (now (line .entry)) r)) (viewFlow x) f allowed sent) ⌝ }
 {
     let size = flow::first_size(x);
     let total = sent + size;
@@ -27,49 +38,51 @@ fn served(r: RoundCell, x: FlowCell, f: u8, allowed: u16, sent: u16) -> Visited
         mark: r.mark,
         allowance: allowed,
     });
-    if round::turn_ends(left, allowed, total) {
-        let closed = round::turn_closed(r, left, f, allowed, total);
+    if left.waiting == 0 {
+        let over = round::turn_emptied(r, left, allowed, total);
+        let bare = flow::cleared(left);
+        return Visited {
+            round: over,
+            flow: bare,
+            reply: reply,
+        };
+    }
+    if allowed <= total {
+        let closed = round::turn_closed(line, r, left, f, allowed, total);
         let kept = flow::excess_kept(left, allowed, total);
-        Visited {
+        return Visited {
             round: closed,
             flow: kept,
             reply: reply,
-        }
-    } else {
-        let open = round::turn_kept(r, f, allowed, total);
-        Visited {
-            round: open,
-            flow: left,
-            reply: reply,
-        }
+        };
+    }
+    let open = round::turn_kept(r, f, allowed, total);
+    Visited {
+        round: open,
+        flow: left,
+        reply: reply,
     }
 }
 
 // Steps 2 to 6, for the flow at the head of the line.
-fn begun(r: RoundCell, x: FlowCell) -> Visited
-    requires { ⌜ MayBegin r x ⌝ }
-    ensures { λ v. ⌜ v ≡ encodeVisit (visitBy NoTurn (viewRound r .line) (viewRound r) (viewFlow x)) ⌝ }
+fn begun(line: &mut [u8; LINE_ROOM], r: RoundCell, x: FlowCell) -> Visited
+    requires { ⌜ MayBegin (held (now line) r) x ⌝ }
+    ensures { λ v. ⌜ heldVisit (now (line .exit)) v ≡ encodeVisit (visitBy NoTurn (viewRound (held (now (line .entry)) r) .line) (viewRound (held (now (line .entry)) r)) (viewFlow x)) ⌝ }
 {
-    let line = r.line;
     let f = line[0];
     let now = round::started(r);
     let allowed = round::allowance(x.weight, now.mark, x.surplus);
-    served(
-        round::turn_opened(now, f, allowed),
-        flow::cleared(x),
-        f,
-        allowed,
-        0,
-    )
+    let open = round::turn_opened(line, now, f, allowed);
+    served(line, open, flow::cleared(x), f, allowed, 0)
 }
 
-pub fn visit(r: RoundCell, x: FlowCell) -> Visited
-    requires { ⌜ MayVisit r x ⌝ }
-    ensures { λ v. ⌜ v ≡ encodeVisit (visitOf (viewRound r) (viewFlow x)) ⌝ }
+pub fn visit(line: &mut [u8; LINE_ROOM], r: RoundCell, x: FlowCell) -> Visited
+    requires { ⌜ MayVisit (held (now line) r) x ⌝ }
+    ensures { λ v. ⌜ heldVisit (now (line .exit)) v ≡ encodeVisit (visitOf (viewRound (held (now (line .entry)) r)) (viewFlow x)) ⌝ }
 {
     let turn = r.turn;
     match turn {
-        Serving::Turn(f, allowed, sent) => served(r, x, f, allowed, sent),
+        Serving::Turn(f, allowed, sent) => served(line, r, x, f, allowed, sent),
         Serving::NoTurn => {
             if r.length == 0 {
                 Visited {
@@ -78,21 +91,19 @@ pub fn visit(r: RoundCell, x: FlowCell) -> Visited
                     reply: Reply::Idle,
                 }
             } else {
-                begun(r, x)
+                begun(line, r, x)
             }
         }
     }
 }
 
-// The flow that a departure concerns.
-pub fn whose(r: RoundCell) -> usize
-    requires { ⌜ RoundReady r ⌝ }
-    ensures { λ f. ⌜ f ≡ whoseOf (viewRound r) ⌝ }
+// The flow that a departure concerns, where `head` is the line's first cell.
+pub fn whose(head: u8, r: RoundCell) -> usize
+    ensures { λ f. ⌜ ((line : List ℕ) → RoundReady (held line r) → head ≡ getD line 0 0 → f ≡ whoseOf (viewRound (held line r))) ⌝ }
 {
     let turn = r.turn;
-    let line = r.line;
     match turn {
         Serving::Turn(f, _, _) => f as usize,
-        Serving::NoTurn => line[0] as usize,
+        Serving::NoTurn => head as usize,
     }
 }

@@ -1,4 +1,4 @@
--- The loop moves the bytes down one by one; the last place is then cleared.
+-- The loop moves the bytes down one by one.
 use Prim.Native.Nat.{ℕ, suc, _+_, _-_, _≤_}
 use mathlib.Core.Path.{_≡_, refl, sym, ap, _∙_}
 use native.Mathlib.Omega.{arith}
@@ -17,35 +17,27 @@ Inv-loop cells₀ last i₀ cells i = (i ≤ last) × (suc last ≡ length cells
 abbrev μ-loop : tie.MeasureT-loop
 μ-loop cells₀ last i₀ cells i = last - i
 
--- src/cells.rt:12:16
 sub-last : tie.Need-sub-last Inv-loop μ-loop
 sub-last c = search needs
 
--- src/cells.rt:14:5
 loop-holds : tie.Need-loop-holds Inv-loop μ-loop
 loop-holds c = search needs
 
--- src/cells.rt:15:26
 add-cells : tie.Need-add-cells Inv-loop μ-loop
 add-cells c = search needs
 
--- src/cells.rt:15:20
 slice-read-cells : tie.Need-slice-read-cells Inv-loop μ-loop
 slice-read-cells c = search needs
 
--- src/cells.rt:15:9
 slice-write-cells : tie.Need-slice-write-cells Inv-loop μ-loop
 slice-write-cells c = search needs
 
--- src/cells.rt:16:9
 add-i : tie.Need-add-i Inv-loop μ-loop
 add-i c = search needs
 
--- src/cells.rt:14:5
 loop-less : tie.Need-loop-less Inv-loop μ-loop
 loop-less c = search needs
 
--- src/cells.rt:14:5
 loop-again : tie.Need-loop-again Inv-loop μ-loop
 loop-again c =
     let cells₀ = c .before .before .before .args .cells .now in
@@ -57,22 +49,15 @@ loop-again c =
       ap (λ (l : List ℕ). set l i (getD l (i + 1) 0)) (inv .3) ∙ one-more-moves cells₀ i (omega arith) (omega arith),
     )
 
--- src/cells.rt:18:5
-slice-write-cells-2 : tie.Need-slice-write-cells-2 Inv-loop μ-loop
-slice-write-cells-2 c = search needs
-
--- src/cells.rt:8:1
 same-length : tie.Need-same-length Inv-loop μ-loop
 same-length c = search needs
 
--- src/cells.rt:8:1
 returns : tie.Need-returns Inv-loop μ-loop
 returns c =
     let cells₀ = c .before .before .args .cells .now in
     let i = c .before .loop .i in
     let inv = c .before .loop .inv in
-    let last : i ≡ length cells₀ - 1 = omega arith in
-    ap (λ (l : List ℕ). set l (length cells₀ - 1) 0) (inv .3) ∙ rw (← last) (all-moved cells₀ i (omega arith) (omega arith))
+    inv .3 ∙ all-moved cells₀ i (omega arith)
 
 pub shift-spec : {M : Type 1} → statement M
 shift-spec =
@@ -88,6 +73,5 @@ shift-spec =
     add-i
     loop-less
     loop-again
-    slice-write-cells-2
     same-length
     returns)

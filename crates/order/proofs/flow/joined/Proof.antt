@@ -8,28 +8,28 @@ use Rattle.order.proofs.flow.joined.Tie as tie
 cast-at : tie.Need-cast-at
 cast-at c = search needs
 
-place-requires : tie.Need-place-requires
-place-requires c κs = search needs
+worth-requires : tie.Need-worth-requires
+worth-requires c κs = search needs
 
 sub-sizes : tie.Need-sub-sizes
 sub-sizes c = search needs
 
 mul-sizes : tie.Need-mul-sizes
-mul-sizes c = omega (arith, joined-fits (c .before .before .args .x) (c .before .before .args .size) (c .before .before .pre) (c .place .result) (c .place .ensures))
+mul-sizes c = omega (arith, joined-fits (c .before .before .args .x) (c .before .before .args .size) (c .before .before .pre) (c .worth .result) (c .worth .ensures))
 
 add-sizes : tie.Need-add-sizes
-add-sizes c = omega (arith, joined-fits (c .before .before .before .args .x) (c .before .before .before .args .size) (c .before .before .before .pre) (c .before .place .result) (c .before .place .ensures))
+add-sizes c = omega (arith, joined-fits (c .before .before .before .args .x) (c .before .before .before .args .size) (c .before .before .before .pre) (c .before .worth .result) (c .before .worth .ensures))
 
 add-t11 : tie.Need-add-t11
 add-t11 c = search needs
 
 returns : tie.Need-returns
-returns c = joined-first (c .before .before .before .before .args .x) (c .before .before .before .before .args .size) (c .before .before .before .before .pre) (c .before .before .place .result) (c .before .before .place .ensures) (c .if1 .taken)
+returns c = joined-first (c .before .before .before .before .args .x) (c .before .before .before .before .args .size) (c .before .before .before .before .pre) (c .before .before .worth .result) (c .before .before .worth .ensures) (c .if1 .taken)
 
 returns-2 : tie.Need-returns-2
-returns-2 c = joined-behind (c .before .before .before .before .before .args .x) (c .before .before .before .before .before .args .size) (c .before .before .before .before .before .pre) (c .before .before .before .place .result) (c .before .before .before .place .ensures) (c .before .if1 .left)
+returns-2 c = joined-behind (c .before .before .before .before .before .args .x) (c .before .before .before .before .before .args .size) (c .before .before .before .before .before .pre) (c .before .before .before .worth .result) (c .before .before .before .worth .ensures) (c .before .if1 .left)
 
 pub joined-spec : {M : Type 1} → statement M
 joined-spec =
     tie.close
-    (tie.spec cast-at place-requires sub-sizes mul-sizes add-sizes add-t11 returns returns-2)
+    (tie.spec cast-at worth-requires sub-sizes mul-sizes add-sizes add-t11 returns returns-2)

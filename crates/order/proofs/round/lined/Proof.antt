@@ -1,24 +1,26 @@
 -- A flow with no packet waiting goes behind the last of the line.
-use native.Mathlib.Omega.{arith}
 use borrow.Author.Needs.{needs}
 use Rattle.order.proofs.RoundLaws.{lined-law, in-place-law}
+use Rattle.order.specs.Encoding.{held}
+use denote.Ref.{now}
+use native.Mathlib.Omega.{arith}
 use Rattle.order.proofs.round.lined.Statement.{statement}
 use Rattle.order.proofs.round.lined.Tie as tie
 
 cast-at : tie.Need-cast-at
 cast-at c = search needs
 
-array-write-line : tie.Need-array-write-line
-array-write-line c = omega (arith, c .before .before .before .before .pre .1 .1 (c .before .if1 .taken))
+element-write-line : tie.Need-element-write-line
+element-write-line c = omega (arith, c .before .before .before .pre .1 .1 (c .before .if1 .taken))
 
-add-t13 : tie.Need-add-t13
-add-t13 c = search needs
+add-result : tie.Need-add-result
+add-result c = search needs
 
 returns : tie.Need-returns
-returns c = lined-law (c .before .before .before .before .before .args .r) (c .before .before .before .before .before .pre .0) (c .before .before .before .before .before .args .was) (c .before .before .before .before .before .pre .1 .0) (c .before .before .before .before .before .args .f) (c .before .before .if1 .taken) (c .before .before .before .before .before .pre .1 .1 (c .before .before .if1 .taken))
+returns c = lined-law (held (now (c .before .before .before .before .args .line)) (c .before .before .before .before .args .r)) (c .before .before .before .before .pre .0) (c .before .before .before .before .args .was) (c .before .before .before .before .pre .1 .0) (c .before .before .before .before .args .f) (c .before .before .if1 .taken) (c .before .before .before .before .pre .1 .1 (c .before .before .if1 .taken))
 
 returns-2 : tie.Need-returns-2
-returns-2 c = in-place-law (c .before .before .before .args .r) (c .before .before .before .pre .0) (c .before .before .before .args .was) (c .before .before .before .pre .1 .0) (c .before .before .before .args .f) (c .if1 .left)
+returns-2 c = in-place-law (held (now (c .before .before .args .line)) (c .before .before .args .r)) (c .before .before .pre .0) (c .before .before .args .was) (c .before .before .pre .1 .0) (c .before .before .args .f) (c .if1 .left)
 
 pub lined-spec : {M : Type 1} → statement M
-lined-spec = tie.close (tie.spec cast-at array-write-line add-t13 returns returns-2)
+lined-spec = tie.close (tie.spec cast-at element-write-line add-result returns returns-2)

@@ -1,10 +1,11 @@
--- The turn alone is another.
+-- Only the turn is new.
 use Rattle.order.proofs.RoundLaws.{kept-law}
+use Rattle.order.specs.Encoding.{held}
 use Rattle.order.proofs.round.turn_kept.Statement.{statement}
 use Rattle.order.proofs.round.turn_kept.Tie as tie
 
 returns : tie.Need-returns
-returns c = kept-law (c .before .args .r) (c .before .pre) (c .before .args .f) (c .before .args .allowed) (c .before .args .sent)
+returns c = λ line ready. kept-law (held line (c .args .r)) ready (c .args .f) (c .args .allowed) (c .args .sent)
 
 pub turn-kept-spec : {M : Type 1} → statement M
 turn-kept-spec = tie.close (tie.spec returns)

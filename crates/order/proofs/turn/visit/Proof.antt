@@ -1,8 +1,10 @@
 -- One law for each case of the turn.
 use borrow.Author.Needs.{needs}
+use mathlib.Core.Path.{_≡_, refl, sym, ap, _∙_}
 use Rattle.order.proofs.BeginLaws.{turn-law, head-law, idle-law}
-use mathlib.Core.Path.{_≡_, sym, ap, _∙_}
-use Rattle.order.specs.Encoding.{encodeVisit}
+use Rattle.order.specs.Encoding.{held}
+use denote.Ref.{now}
+use Rattle.order.specs.Premises.{encodeVisit}
 use Rattle.order.proofs.turn.visit.Statement.{statement}
 use Rattle.order.proofs.turn.visit.Tie as tie
 
@@ -10,22 +12,22 @@ enum-known-turn : tie.Need-enum-known-turn
 enum-known-turn c = search needs
 
 served-requires : tie.Need-served-requires
-served-requires c κs = c .before .before .before .pre .in-turn (c .before .turn .given .0 .0) (c .before .turn .given .0 .1 .0) (c .before .turn .given .0 .1 .1 .0) (c .before .turn .given .1)
+served-requires c κs = c .before .before .before .before .pre .in-turn (c .before .before .turn .given .0 .0) (c .before .before .turn .given .0 .1 .0) (c .before .before .turn .given .0 .1 .1 .0) (c .before .before .turn .given .1)
 
 enum-told : tie.Need-enum-told
 enum-told c = search needs
 
 begun-requires : tie.Need-begun-requires
-begun-requires c κs = c .before .before .before .before .pre .at-head (c .before .before .enum-told .given .1) (c .if1 .left)
+begun-requires c κs = c .before .before .before .before .before .pre .at-head (c .before .before .before .enum-told .given .1) (c .before .if1 .left)
 
 returns : tie.Need-returns
-returns c = c .served .ensures ∙ ap encodeVisit (sym (turn-law (c .before .before .before .before .args .r) (c .before .before .before .before .args .x) (c .before .before .turn .given .0 .0) (c .before .before .turn .given .0 .1 .0) (c .before .before .turn .given .0 .1 .1 .0) (c .before .before .turn .given .1)))
+returns c = c .served .ensures ∙ ap encodeVisit (sym (turn-law (held (now (c .before .before .before .before .before .args .line)) (c .before .before .before .before .before .args .r)) (c .before .before .before .before .before .args .x) (c .before .before .before .turn .given .0 .0) (c .before .before .before .turn .given .0 .1 .0) (c .before .before .before .turn .given .0 .1 .1 .0) (c .before .before .before .turn .given .1)))
 
 returns-2 : tie.Need-returns-2
-returns-2 c = idle-law (c .before .before .before .before .args .r) (c .before .before .before .before .args .x) (c .before .before .before .before .pre) (c .before .before .enum-told .given .1) (c .if1 .taken)
+returns-2 c = idle-law (held (now (c .before .before .before .before .args .line)) (c .before .before .before .before .args .r)) (c .before .before .before .before .args .x) (c .before .before .before .before .pre) (c .before .before .enum-told .given .1) (c .if1 .taken)
 
 returns-3 : tie.Need-returns-3
-returns-3 c = c .begun .ensures ∙ ap encodeVisit (sym (head-law (c .before .before .before .before .before .args .r) (c .before .before .before .before .before .args .x) (c .before .before .before .enum-told .given .1)))
+returns-3 c = c .begun .ensures ∙ ap encodeVisit (sym (head-law (held (now (c .before .before .before .before .before .before .args .line)) (c .before .before .before .before .before .before .args .r)) (c .before .before .before .before .before .before .args .x) (c .before .before .before .before .enum-told .given .1)))
 
 pub visit-spec : {M : Type 1} → statement M
 visit-spec =

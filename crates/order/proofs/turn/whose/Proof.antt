@@ -1,6 +1,8 @@
 -- The flow of the turn, or the first cell of the line.
 use borrow.Author.Needs.{needs}
+use mathlib.Core.Path.{_≡_, refl, sym, ap, _∙_}
 use Rattle.order.proofs.BeginLaws.{whose-turn, whose-head}
+use Rattle.order.specs.Encoding.{held}
 use Rattle.order.proofs.turn.whose.Statement.{statement}
 use Rattle.order.proofs.turn.whose.Tie as tie
 
@@ -13,26 +15,11 @@ cast-result c = search needs
 enum-told : tie.Need-enum-told
 enum-told c = search needs
 
-array-read-result : tie.Need-array-read-result
-array-read-result c = search needs
-
-cast-result-2 : tie.Need-cast-result-2
-cast-result-2 c = search needs
-
 returns : tie.Need-returns
-returns c = whose-turn (c .before .before .before .before .args .r) (c .before .turn .given .0 .0) (c .before .turn .given .0 .1 .0) (c .before .turn .given .0 .1 .1 .0) (c .before .turn .given .1)
+returns c = λ line ready head. whose-turn (held line (c .before .before .before .args .r)) (c .before .turn .given .0 .0) (c .before .turn .given .0 .1 .0) (c .before .turn .given .0 .1 .1 .0) (c .before .turn .given .1)
 
 returns-2 : tie.Need-returns-2
-returns-2 c = whose-head (c .before .before .before .args .r) (c .before .before .before .pre .form) (c .enum-told .given .1)
+returns-2 c = λ line ready head. head ∙ whose-head (held line (c .before .before .args .r)) (ready .form) (c .enum-told .given .1)
 
 pub whose-spec : {M : Type 1} → statement M
-whose-spec =
-    tie.close
-    (tie.spec
-    enum-known-turn
-    cast-result
-    enum-told
-    array-read-result
-    cast-result-2
-    returns
-    returns-2)
+whose-spec = tie.close (tie.spec enum-known-turn cast-result enum-told returns returns-2)
