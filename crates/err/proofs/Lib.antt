@@ -8,4 +8,5 @@ pub mod Keeps
 pub mod Standing
 pub mod Queues
 pub mod Told
+pub mod Departing
 pub mod Demand2

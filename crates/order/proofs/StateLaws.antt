@@ -326,5 +326,14 @@ module _ (c : State) (S : Sound c) where
             (o .flow) line (withLength (c .round) (o .length)) (o .answer) x (cell-seen at place-in-reach)
             (ap (λ (k : OfferHeld). k .flow) g) (ap (λ (k : OfferHeld). k .round) g) (ap (λ (k : OfferHeld). k .answer) g)
 
+-- What the state given back stands for.
+pub offer-seen : (c : State) → Sound c → (f size : ℕ) (r : Answered) → OfferGives c f size r → view (r .state) ≡ offered (view c) f size .state
+unfolding answeredAs
+offer-seen c S f size r g = ap (λ (a : Answered). view (a .state)) (g .outcome) ∙ seen (offered (view c) f size .state) (offered-keeps (view c) f size (S .rules))
+
+pub depart-seen : (c : State) → Sound c → (r : Departed) → DepartGives c r → view (r .state) ≡ departed (view c) .state
+unfolding departedAs
+depart-seen c S r g = ap (λ (a : Departed). view (a .state)) (g .outcome) ∙ seen (departed (view c) .state) (departed-keeps (view c) (S .rules))
+
 pub new-gives : GivesNew (encode newScheduler)
 new-gives = record { outcome = refl; sound = sound-of newScheduler new-keeps }

@@ -23,7 +23,7 @@ use Rattle.store.specs.Calls.{AfterOffer, AfterDeparture, storeOffer, st
 use Rattle.store.specs.Chain.{offering, departing, lent, back, Packet, stateAfter, storeAfter, accepting, leaving, taken, bytesOf, heldFrom, waitingBytes}
 use Rattle.store.proofs.SlotLaws.{held-length, written-length}
 use Rattle.store.proofs.CallLaws.{at-zero, offer-may, offer-state, offer-refused, offer-stores, departs, depart-refused, depart-made, sent-departure}
-use Rattle.store.proofs.Departing.{Leaves, departed-leaves, idle-stays, never-refused}
+use Rattle.err.proofs.Departing.{Leaves, departed-leaves, idle-stays, never-refused}
 use Rattle.store.proofs.Lending.{lent-length, lent-whole, back-whole, back-untouched}
 use Rattle.store.proofs.WaitingLaws.{waiting-over-another-flow, waiting-with-one-more, bytes-of-own, bytes-of-another}
 

@@ -1,18 +1,20 @@
 -- From what the order layer's calls give to what a site's calls promise.
-use Prim.Native.Nat.{ℕ, suc, _+_, _%_, _≤_, _<_}
-use mathlib.Core.Path.{_≡_, sym, ap, ap₂, _∙_}
-use mathlib.Core.List.{List, [], _++_}
+use Prim.Native.Nat.{ℕ, suc, _+_, _-_, _%_, _≤_, _<_}
+use mathlib.Core.Path.{_≡_, refl, sym, ap, ap₂, _∙_}
+use mathlib.Core.List.{List, [], _∷_, _++_}
 use native.Mathlib.Omega.{arith}
-use lib.ListN.{length, getD, drop}
+use lib.ListN.{length, getD, drop, length-append}
 use Rattle.err.specs.Limits.{flowLimit, queueLimit, sizeLimit}
 use Rattle.err.specs.Model.{Flow, Scheduler, flowAt}
-use Rattle.err.specs.Calls.{offerRefusal, offered, unlessRefused, departed, answerOf}
+use Rattle.err.specs.Choose.{ifZero}
+use Rattle.err.specs.Steps.{packetJoined, flowLined, nextSlot}
+use Rattle.err.specs.Calls.{put, offerRefusal, offered, unlessRefused, departed, answerOf}
 use Rattle.err.specs.Rules.{FlowRules}
 use Rattle.err.specs.declared.Answer.the-variants.{Done, Refused as AnswerRefused}
 use Rattle.err.specs.declared.Reply.{Reply}
 use Rattle.err.specs.declared.Reply.the-variants.{Departure, Refused}
 use Rattle.err.specs.declared.Sent.{Sent}
-use Rattle.err.proofs.Flows.{first-in-range}
+use Rattle.err.proofs.Flows.{at-put, first-in-range}
 use Rattle.err.proofs.Refusals.{MayOffer, may-offer}
 use Rattle.order.specs.Encoding.{viewFlow, Sound}
 use Rattle.order.specs.Premises.{FlowReady}
@@ -22,35 +24,43 @@ use Rattle.order.specs.declared.Departed.{Departed}
 use Rattle.order.specs.declared.FlowCell.{FlowCell}
 use Rattle.order.specs.declared.State.{State}
 use Rattle.order.proofs.Encoded.{waiting-is}
-use Rattle.order.proofs.StateLaws.{cell-ready, cell-seen}
-use Rattle.store.specs.Slots.{storeLength, outLimit, nextSlotOf, written, held}
+use Rattle.order.proofs.StateLaws.{cell-seen, offer-seen, depart-seen}
+use Rattle.store.specs.Slots.{storeLength, outLimit, nextSlotOf, slotBefore, written, held}
 use Rattle.store.specs.Calls.{storeOffer, storeOfferRefusal, storeDepart, storeDepartRefusal}
 use Rattle.store.specs.Promised.{schedulerOf, SoundSite, siteOf, answeredAs, departedAs, NewGives, OpenGives, OfferGives, DepartGives}
 use Rattle.store.specs.declared.Site.{Site}
 use Rattle.store.proofs.CallLaws.{done-number, refused-number, offer-wrong-store, offer-right-store, offer-state, offer-answer, offer-refused, offer-stores, offer-number, depart-wrong-store, depart-short-out, depart-may, depart-refused, depart-made, sent-departure, sent-nothing}
-use Rattle.store.proofs.Departing.{Leaves, departed-leaves}
+use Rattle.err.proofs.Departing.{Leaves, departed-leaves}
 
 -- What reading past the end of the flows would give.
 abbrev pub noCell : FlowCell
 noCell = record { weight = 0; surplus = 0; slot = 0; waiting = 0; sizes = 0 }
 
--- The slot that a flow's next packet takes is one of its slots.
-pub next-in-reach : (k : ℕ) (cells : List FlowCell) (f : ℕ) → k ≡ nextSlotOf (viewFlow (getD cells f noCell)) → k < queueLimit
-next-in-reach k cells f e = omega arith
+-- A slot before another is one of the flow's slots.
+pub before-in-reach : (k j : ℕ) → k ≡ slotBefore j → k < queueLimit
+before-in-reach k j e = omega arith
 
--- The slot that a flow's next packet takes, from its cell.
+before-next : (k : ℕ) → k < queueLimit → slotBefore (nextSlot k) ≡ k
+before-next k h = omega arith
+
+-- The slots that are read off a flow's cell.
 module _ (x : FlowCell) (h : FlowReady x) where
-  pub slots-fit : x .slot + x .waiting < queueLimit + queueLimit
+  pub slots-fit : (x .slot < queueLimit) × (x .waiting ≤ queueLimit)
   unfolding viewFlow
-  slots-fit = omega (arith, waiting-is x (h .form), h .rules .slot-in-range, h .rules .waiting-in-range)
+  slots-fit = (h .rules .slot-in-range, omega (arith, waiting-is x (h .form), h .rules .waiting-in-range))
 
-  pub next-slot-law : (x .slot + x .waiting) % queueLimit ≡ nextSlotOf (viewFlow x)
+  pub left-law : (x .slot + (queueLimit - 1)) % queueLimit ≡ slotBefore (viewFlow x .slot)
   unfolding viewFlow
-  next-slot-law = ap (λ (n : ℕ). (x .slot + n) % queueLimit) (waiting-is x (h .form))
+  left-law = refl
 
--- The first slot of a flow of a sound state.
-pub first-in-reach : (o : State) → Sound o → (f k : ℕ) → f < flowLimit → k ≡ viewFlow (getD (o .flows) f noCell) .slot → k < queueLimit
-first-in-reach o S f k h e = omega (arith, cell-ready o S f h .rules .slot-in-range)
+  pub last-law : (x .slot + x .waiting + (queueLimit - 1)) % queueLimit ≡ slotBefore (nextSlotOf (viewFlow x))
+  unfolding viewFlow
+  last-law =
+      ap (λ (n : ℕ). (x .slot + n + (queueLimit - 1)) % queueLimit) (waiting-is x (h .form))
+      ∙ around (x .slot + length (viewFlow x .queue))
+    where
+      around : (n : ℕ) → (n + (queueLimit - 1)) % queueLimit ≡ (n % queueLimit + (queueLimit - 1)) % queueLimit
+      around n = omega arith
 
 pub new-law : (o : State) → order.GivesNew o → NewGives (record { order = o })
 unfolding siteOf
@@ -123,8 +133,32 @@ module _ (site : Site) (S : SoundSite site) where
             sound = g .sound;
           }
 
-      -- The packet is written in the slot that was read off the state before the call.
-      pub accepted-offer : a .answer ≡ Done → (k : ℕ) (after : List ℕ) → k ≡ nextSlotOf (viewFlow (getD (site .order .flows) f noCell))
+      -- The flow that was offered to, once it is accepted.
+      joined-is : a .answer ≡ Done → viewFlow (getD (a .state .flows) f noCell) ≡ packetJoined (flowAt s f) (length packet)
+      unfolding schedulerOf offered unlessRefused
+      joined-is e =
+          let h : f < flowLimit = accepted e .flow-in-range in
+          cell-seen (a .state) (g .sound) f h
+          ∙ ap (λ (t : Scheduler). flowAt t f) (offer-seen (site .order) S f (length packet) a g)
+          ∙ ap (λ (n : ℕ). flowAt (ifZero n (put s f (packetJoined (flowAt s f) (length packet)) (flowLined (s .round) f (flowAt s f))) s) f)
+          (done-number (offerRefusal f (length packet) (flowAt s f)) (sym answer-is ∙ e))
+          ∙ at-put s f (packetJoined (flowAt s f) (length packet)) (flowLined (s .round) f (flowAt s f)) (omega (arith, S .rules .all-flows))
+
+      pub slot-taken : a .answer ≡ Done → slotBefore (nextSlotOf (viewFlow (getD (a .state .flows) f noCell))) ≡ nextSlotOf (flowAt s f)
+      unfolding packetJoined
+      slot-taken e =
+          ap (λ (x : Flow). slotBefore (nextSlotOf x)) (joined-is e)
+          ∙ ap (λ (n : ℕ). slotBefore ((flowAt s f .slot + n) % queueLimit)) one-more
+          ∙ around (flowAt s f .slot) (length (flowAt s f .queue))
+        where
+          one-more : length (flowAt s f .queue ++ (length packet ∷ [])) ≡ length (flowAt s f .queue) + 1
+          one-more = omega (arith, length-append (flowAt s f .queue) (length packet ∷ []))
+
+          around : (a b : ℕ) → slotBefore ((a + (b + 1)) % queueLimit) ≡ (a + b) % queueLimit
+          around a b = omega arith
+
+      -- The packet is written in the slot that the flow's next packet was to take.
+      pub accepted-offer : a .answer ≡ Done → (k : ℕ) (after : List ℕ) → k ≡ slotBefore (nextSlotOf (viewFlow (getD (a .state .flows) f noCell)))
           → after ≡ written store f k packet
           → OfferGives site f packet store after (record { site = record { order = a .state }; answer = a .answer })
       accepted-offer e k after at w =
@@ -132,7 +166,7 @@ module _ (site : Site) (S : SoundSite site) where
             outcome = outcome-is;
             stored =
                 w
-                ∙ ap (λ (j : ℕ). written store f j packet) (at ∙ ap nextSlotOf (cell-of f (accepted e .flow-in-range)))
+                ∙ ap (λ (j : ℕ). written store f j packet) (at ∙ slot-taken e)
                 ∙ sym (offer-stores s f packet store (offer-right-store s f packet store all ∙ done-number (offerRefusal f (length packet) (flowAt s f)) (sym answer-is ∙ e)));
             sound = g .sound;
           }
@@ -189,8 +223,16 @@ module _ (site : Site) (S : SoundSite site) where
         pub size-in-range : d .size ≤ sizeLimit
         size-in-range = first-in-range (rw (leaves .first-in-queue) at (rules-of (d .flow) .sizes-in-range)) .1
 
-        -- The bytes lay in the slot that was read off the state before the call.
-        pub sent-departed : (k : ℕ) (after : List ℕ) → k ≡ viewFlow (getD (site .order .flows) (d .flow) noCell) .slot
+        slot-left : slotBefore (viewFlow (getD (a .state .flows) (d .flow) noCell) .slot) ≡ flowAt s (d .flow) .slot
+        unfolding schedulerOf
+        slot-left =
+            ap (λ (x : Flow). slotBefore (x .slot))
+            (cell-seen (a .state) (g .sound) (d .flow) flow-in-reach ∙ ap (λ (t : Scheduler). flowAt t (d .flow)) (depart-seen (site .order) S a g))
+            ∙ ap slotBefore (leaves .slot-moves-on)
+            ∙ before-next (flowAt s (d .flow) .slot) (rules-of (d .flow) .slot-in-range)
+
+        -- The bytes lay in the slot that was the flow's first.
+        pub sent-departed : (k : ℕ) (after : List ℕ) → k ≡ slotBefore (viewFlow (getD (a .state .flows) (d .flow) noCell) .slot)
             → after ≡ held store (d .flow) k (d .size) ++ drop (d .size) out
             → DepartGives site store out after (record { site = record { order = a .state }; reply = Departure d })
         sent-departed k after at w =
@@ -198,7 +240,7 @@ module _ (site : Site) (S : SoundSite site) where
               outcome = ap (λ (r : Reply). record { site = record { order = a .state }; reply = r }) (sym e) ∙ departure-outcome;
               sent =
                   w
-                  ∙ ap (λ (j : ℕ). held store (d .flow) j (d .size) ++ drop (d .size) out) (at ∙ ap (λ (x : Flow). x .slot) (cell-of (d .flow) flow-in-reach))
+                  ∙ ap (λ (j : ℕ). held store (d .flow) j (d .size) ++ drop (d .size) out) (at ∙ slot-left)
                   ∙ sym (depart-made s store out may .1 ∙ sent-departure s store out (departed s .reply) d (sym reply-is ∙ e));
               sound = g .sound;
             }

@@ -15,7 +15,7 @@ use Rattle.store.specs.declared.Site.{Site}
 use Rattle.store.specs.declared.SiteAnswered.{SiteAnswered}
 use Rattle.store.specs.declared.SiteDeparted.{SiteDeparted}
 use Rattle.store.proofs.CallLaws.{at-positive, refused-number, offer-refused, offer-number, depart-refused, depart-made, sent-nothing}
-use Rattle.store.proofs.Departing.{idle-stays, never-refused}
+use Rattle.err.proofs.Departing.{idle-stays, never-refused}
 use Rattle.store.proofs.SiteLaws.{site-form}
 
 -- Of the definitions' calls.

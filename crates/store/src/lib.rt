@@ -78,8 +78,8 @@ impl Site {
         let state = asked.state;
         let answer = asked.answer;
         if let Answer::Done = answer {
-            // An accepted flow number is one of the state's.
-            slots::write(store, f, slots::next(order.flows[f]), packet);
+            // Nothing of the state before the call is needed, so that no second state is kept.
+            slots::write(store, f, slots::last(state.flows[f]), packet);
         }
         SiteAnswered {
             site: Site { order: state },
@@ -109,9 +109,8 @@ impl Site {
         let state = sent.state;
         let reply = sent.reply;
         if let Reply::Departure(d) = reply {
-            // The bytes lie in the slot that was the flow's first before the call: `order` is still as it was then.
             let f = d.flow as usize;
-            slots::read(store, f, slots::first(order.flows[f]), d.size as usize, out);
+            slots::read(store, f, slots::left(state.flows[f]), d.size as usize, out);
         }
         SiteDeparted {
             site: Site { order: state },

@@ -6,7 +6,7 @@ ghost use lib.ListN.{length, drop};
 ghost use Rattle.err.specs.Limits.{flowLimit, queueLimit, sizeLimit};
 ghost use Rattle.order.specs.Encoding.{viewFlow};
 ghost use Rattle.order.specs.Premises.{FlowReady};
-ghost use Rattle.store.specs.Slots.{storeLength, outLimit, slotStart, nextSlotOf, written, held};
+ghost use Rattle.store.specs.Slots.{storeLength, outLimit, slotStart, nextSlotOf, slotBefore, written, held};
 use crate::bytes::copy_in;
 use err::QUEUE_LIMIT;
 use order::FlowCell;
@@ -19,19 +19,20 @@ fn start(f: usize, k: usize) -> usize
     2048 * f + 256 * k
 }
 
-// The slot of the flow's first packet.
-pub fn first(x: FlowCell) -> usize
-    ensures { λ k. ⌜ k ≡ viewFlow x .slot ⌝ }
+// The slot of the packet that a departure took from the flow: the one before the flow's first.
+pub fn left(x: FlowCell) -> usize
+    requires { ⌜ FlowReady x ⌝ }
+    ensures { λ k. ⌜ k ≡ slotBefore (viewFlow x .slot) ⌝ }
 {
-    x.slot as usize
+    ((x.slot + (QUEUE_LIMIT - 1)) % QUEUE_LIMIT) as usize
 }
 
-// The slot that the flow's next packet takes.
-pub fn next(x: FlowCell) -> usize
+// The slot of the packet that an offer put last in the flow: the one before that which the next will take.
+pub fn last(x: FlowCell) -> usize
     requires { ⌜ FlowReady x ⌝ }
-    ensures { λ k. ⌜ k ≡ nextSlotOf (viewFlow x) ⌝ }
+    ensures { λ k. ⌜ k ≡ slotBefore (nextSlotOf (viewFlow x)) ⌝ }
 {
-    ((x.slot + x.waiting) % QUEUE_LIMIT) as usize
+    ((x.slot + x.waiting + (QUEUE_LIMIT - 1)) % QUEUE_LIMIT) as usize
 }
 
 // Writes a packet in slot k of flow f.

@@ -6,7 +6,8 @@ use native.Mathlib.Omega.{arith}
 use denote.Enum.Declared.{tagOf}
 use Rattle.err.specs.Limits.{flowLimit, sizeLimit}
 use Rattle.err.proofs.Reply.{the-type}
-use Rattle.store.proofs.SiteLaws.{wrong-store-departure, short-out-departure, no-departure, flow-in-reach, size-in-range, first-in-reach, sent-departed}
+use Rattle.order.proofs.StateLaws.{cell-ready}
+use Rattle.store.proofs.SiteLaws.{wrong-store-departure, short-out-departure, no-departure, flow-in-reach, size-in-range, before-in-reach, sent-departed}
 use Rattle.store.proofs.Site.depart.Statement.{statement}
 use Rattle.store.proofs.Site.depart.Tie as tie
 
@@ -32,36 +33,37 @@ in-range c =
     let at = c .before .before .before .before .before .before .before .before .before in
     let store-right = c .before .before .before .before .before .before .if1 .left in
     let out-long = c .before .before .before .before .before .if2 .left in
-    let left = c .before .before .before .depart in (
-      flow-in-reach (at .args .self) (at .pre) (at .args .store .now) (at .args .out .now) store-right out-long (left .result) (left .ensures) (c .reply .given .0 .0) (c .reply .given .1),
-      size-in-range (at .args .self) (at .pre) (at .args .store .now) (at .args .out .now) store-right out-long (left .result) (left .ensures) (c .reply .given .0 .0) (c .reply .given .1),
+    let gone = c .before .before .before .depart in (
+      flow-in-reach (at .args .self) (at .pre) (at .args .store .now) (at .args .out .now) store-right out-long (gone .result) (gone .ensures) (c .reply .given .0 .0) (c .reply .given .1),
+      size-in-range (at .args .self) (at .pre) (at .args .store .now) (at .args .out .now) store-right out-long (gone .result) (gone .ensures) (c .reply .given .0 .0) (c .reply .given .1),
     )
 
 cast-f : tie.Need-cast-f
 cast-f c = omega (arith, in-range (c .before .before) .0)
 
-mul-first : tie.Need-mul-first
-mul-first c = omega (arith, in-range (c .before .before) .0)
+mul-left : tie.Need-mul-left
+mul-left c = omega (arith, in-range (c .before .before) .0)
 
-element-copy-out-first : tie.Need-element-copy-out-first
-element-copy-out-first c = in-range (c .before .before) .0
+element-copy-out-left : tie.Need-element-copy-out-left
+element-copy-out-left c = in-range (c .before .before) .0
 
-first-requires : tie.Need-first-requires
-first-requires c κs = tt
+left-requires : tie.Need-left-requires
+left-requires c κs =
+    let gone = c .before .before .before .before .before .before .depart in
+    cell-ready (gone .result .state) (gone .ensures .sound) (c .before .before .before .reply .given .0 .0 .flow) (in-range (c .before .before .before) .0)
 
 cast-read : tie.Need-cast-read
 cast-read c = omega (arith, in-range (c .before .before .before .before .before) .1)
 
 read-requires : tie.Need-read-requires
 read-requires c κs =
-    let at = c .before .before .before .before .before .before .before .before .before .before .before .before .before .before .before in
     let reply = c .before .before .before .before .before .before in
-    let slot = c .before .before .first in (
+    let slot = c .before .before .left in (
       c .before .before .before .before .before .before .before .before .before .before .before .before .if1 .left,
       (
         (
           in-range reply .0,
-          first-in-reach (at .args .self .order) (at .pre) (reply .reply .given .0 .0 .flow) (slot .result) (in-range reply .0) (slot .ensures),
+          before-in-reach (slot .result) _ (slot .ensures),
           in-range reply .1,
         ),
         c .before .before .before .before .before .before .before .before .before .before .before .if2 .left,
@@ -76,10 +78,10 @@ returns-3 c =
     let at = c .before .before .before .before .before .before .before .before .before .before .before .before .before .before .before .before .before .before in
     let store-right = c .before .before .before .before .before .before .before .before .before .before .before .before .before .before .before .if1 .left in
     let out-long = c .before .before .before .before .before .before .before .before .before .before .before .before .before .before .if2 .left in
-    let left = c .before .before .before .before .before .before .before .before .before .before .before .before .depart in
+    let gone = c .before .before .before .before .before .before .before .before .before .before .before .before .depart in
     let reply = c .before .before .before .before .before .before .before .before .before .reply in
-    let slot = c .before .before .before .before .before .first in
-    sent-departed (at .args .self) (at .pre) (at .args .store .now) (at .args .out .now) store-right out-long (left .result) (left .ensures)
+    let slot = c .before .before .before .before .before .left in
+    sent-departed (at .args .self) (at .pre) (at .args .store .now) (at .args .out .now) store-right out-long (gone .result) (gone .ensures)
     (reply .given .0 .0) (reply .given .1)
     (slot .result) (c .before .before .read .last .1 .1 .1 .1 .0) (slot .ensures) (c .before .before .read .ensures)
 
@@ -88,8 +90,8 @@ returns-4 c =
     let at = c .before .before .before .before .before .before .before .before in
     let store-right = c .before .before .before .before .before .if1 .left in
     let out-long = c .before .before .before .before .if2 .left in
-    let left = c .before .before .depart in
-    no-departure (at .args .self) (at .pre) (at .args .store .now) (at .args .out .now) store-right out-long (left .result) (left .ensures)
+    let gone = c .before .before .depart in
+    no-departure (at .args .self) (at .pre) (at .args .store .now) (at .args .out .now) store-right out-long (gone .result) (gone .ensures)
     (λ d e. ⊎-elim (λ t. omega (arith, t, ap (tagOf the-type) e)) (λ t. omega (arith, t, ap (tagOf the-type) e)) (c .match .keys2))
 
 pub depart-spec : {M : Type 1} → statement M
@@ -101,9 +103,9 @@ depart-spec =
     depart-requires
     enum-known-reply
     cast-f
-    mul-first
-    element-copy-out-first
-    first-requires
+    mul-left
+    element-copy-out-left
+    left-requires
     cast-read
     read-requires
     same-length

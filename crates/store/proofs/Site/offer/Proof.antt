@@ -4,7 +4,7 @@ use native.Mathlib.Omega.{arith}
 use lib.ListN.{length}
 use Rattle.err.specs.Limits.{flowLimit, sizeLimit}
 use Rattle.order.proofs.StateLaws.{cell-ready}
-use Rattle.store.proofs.SiteLaws.{next-in-reach, wrong-store-offer, accepted, accepted-offer, refused-offer}
+use Rattle.store.proofs.SiteLaws.{before-in-reach, wrong-store-offer, accepted, accepted-offer, refused-offer}
 use Rattle.store.proofs.Site.offer.Statement.{statement}
 use Rattle.store.proofs.Site.offer.Tie as tie
 
@@ -32,23 +32,23 @@ in-range c =
     (c .before .before .before .before .before .if1 .left) (asked .result) (asked .ensures) (c .enum-told .given .1) in
     (may .flow-in-range, may .size-small)
 
-mul-next : tie.Need-mul-next
-mul-next c = omega (arith, in-range (c .before) .0)
+mul-last : tie.Need-mul-last
+mul-last c = omega (arith, in-range (c .before) .0)
 
-element-copy-out-next : tie.Need-element-copy-out-next
-element-copy-out-next c = in-range (c .before) .0
+element-copy-out-last : tie.Need-element-copy-out-last
+element-copy-out-last c = in-range (c .before) .0
 
-next-requires : tie.Need-next-requires
-next-requires c κs =
+last-requires : tie.Need-last-requires
+last-requires c κs =
     let at = c .before .before .before .before .before .before .before .before .before .before in
-    cell-ready (at .args .self .order) (at .pre) (at .args .f) (in-range (c .before .before) .0)
+    let asked = c .before .before .before .before .before .offer in
+    cell-ready (asked .result .state) (asked .ensures .sound) (at .args .f) (in-range (c .before .before) .0)
 
 write-requires : tie.Need-write-requires
-write-requires c κs =
-    let at = c .before .before .before .before .before .before .before .before .before .before .before in (
-      c .before .before .before .before .before .before .before .before .if1 .left,
-      (in-range (c .before .before .before) .0, next-in-reach (c .next .result) (at .args .self .order .flows) (at .args .f) (c .next .ensures), in-range (c .before .before .before) .1),
-    )
+write-requires c κs = (
+  c .before .before .before .before .before .before .before .before .if1 .left,
+  (in-range (c .before .before .before) .0, before-in-reach (c .last .result) _ (c .last .ensures), in-range (c .before .before .before) .1),
+)
 
 enum-told-2 : tie.Need-enum-told-2
 enum-told-2 c = c .match .keys2
@@ -60,11 +60,11 @@ returns-2 : tie.Need-returns-2
 returns-2 c =
     let at = c .before .before .before .before .before .before .before .before .before .before .before .before .before .before in
     let asked = c .before .before .before .before .before .before .before .before .before .offer in
-    let next = c .before .before .before .next in
+    let last = c .before .before .before .last in
     accepted-offer (at .args .self) (at .pre) (at .args .f) (at .args .packet .now) (at .args .store .now)
     (c .before .before .before .before .before .before .before .before .before .before .before .if1 .left)
     (asked .result) (asked .ensures) (c .before .before .before .before .before .before .enum-told .given .1)
-    (next .result) (c .before .before .write .last .0) (next .ensures) (c .before .before .write .ensures)
+    (last .result) (c .before .before .write .last .0) (last .ensures) (c .before .before .write .ensures)
 
 returns-3 : tie.Need-returns-3
 returns-3 c =
@@ -81,9 +81,9 @@ offer-spec =
     returns
     offer-requires
     enum-told
-    mul-next
-    element-copy-out-next
-    next-requires
+    mul-last
+    element-copy-out-last
+    last-requires
     write-requires
     enum-told-2
     same-length

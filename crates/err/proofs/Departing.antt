@@ -1,22 +1,22 @@
--- What the model's departure call does to the flow whose packet leaves and to the others: facts of the order layer that the bytes rest on.
+-- What a departure call does to the flow whose packet leaves and to the others.
 use Prim.Native.Nat.{ℕ, _+_, _<_}
 use mathlib.Core.Path.{_≡_, refl, sym, ap, _∙_, subst}
 use mathlib.Core.List.{List, [], _∷_}
 use mathlib.Core.Bool.{Bool, true, false}
 use native.Mathlib.Omega.{arith}
 use lib.ListN.{length, getD, drop}
 use Rattle.err.specs.Limits.{flowLimit}
 use Rattle.err.specs.Model.{Flow, Round, Scheduler, flowAt}
 use Rattle.err.specs.Steps.{firstSize, firstLeft, nextSlot, excessKept, turnEnds, turnOpened, roundStarted, surplusCleared, headAllowance, settled, served, visitBy, visit}
 use Rattle.err.specs.Calls.{put, departed}
 use Rattle.err.specs.Rules.{Rules}
 use Rattle.err.specs.declared.Sent.{Sent}
 use Rattle.err.specs.declared.Reply.{Reply}
 use Rattle.err.specs.declared.Reply.the-variants.{Departure, Idle, Refused}
 use Rattle.err.specs.declared.Serving.{Serving}
 use Rattle.err.specs.declared.Serving.the-variants.{NoTurn, Turn}
 use Rattle.err.proofs.Flows.{at-put, at-others, put-back}
 use Rattle.err.proofs.Standing.{TurnFacts, HeadFacts, turn-facts, head-facts}
 
 -- From s the packet of d leaves, and t is left: it was the first of its flow's queue, and the flow's slot moves on to the next.
 pub record Leaves (s : Scheduler) (d : Sent) (t : Scheduler) : Type 0 where
