@@ -1,1 +1,3 @@
+pub mod Contract
+pub mod Frame
 pub mod Held
