@@ -35,11 +35,11 @@ pub struct RoundCell {
     pub turn: Serving,
 }
 
-// The scheduler's state. The flow numbers of the line lie in the first cells.
+// The scheduler's state, which only the calls make. The flow numbers of the line lie in the first cells; of a flow the store layer reads its slot.
 pub struct State {
     pub flows: [FlowCell; FLOW_LIMIT],
-    pub line: [u8; LINE_ROOM],
-    pub round: RoundCell,
+    line: [u8; LINE_ROOM],
+    round: RoundCell,
 }
 
 // What a departure call makes of the round's numbers and of the flow whose turn it is, with its reply.

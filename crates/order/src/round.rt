@@ -115,9 +115,10 @@ pub fn turn_emptied(r: RoundCell, left: FlowCell, allowed: u16, sent: u16) -> Ro
     ensures { λ c. ⌜ ((f : ℕ) → StepGives r (λ (q : Round). turnClosed q (viewFlow left) f allowed sent) c) ⌝ }
 {
     let running = raised(r.running, left.weight, allowed, sent);
+    let visits = r.visits - 1;
     RoundCell {
         length: r.length,
-        visits: r.visits - 1,
+        visits: visits,
         mark: r.mark,
         running: running,
         turn: Serving::NoTurn,

@@ -17,9 +17,9 @@ pub const OUT_SHORT: u8 = 7;
 
 pub const STORE_WRONG: u8 = 8;
 
-// A scheduler whose packets lie in a store. Order-layer calls give a State back and no Site, so a chain of sites has store calls only.
+// A scheduler whose packets lie in a store. Its state is its own: order-layer calls give no Site, so a chain of sites has store calls only.
 pub struct Site {
-    pub order: State,
+    order: State,
 }
 
 // The replies, each with the site handed back beside it.

@@ -9,6 +9,7 @@ ghost use Rattle.order.specs.Premises.{FlowReady};
 ghost use Rattle.store.specs.Slots.{storeLength, outLimit, slotStart, nextSlotOf, slotBefore, written, held};
 use crate::bytes::copy_in;
 use err::QUEUE_LIMIT;
+use err::SIZE_LIMIT;
 use order::FlowCell;
 
 // The byte at which slot k of flow f begins.
@@ -16,7 +17,7 @@ fn start(f: usize, k: usize) -> usize
     requires { ⌜ (f < flowLimit) × (k < queueLimit) ⌝ }
     ensures { λ at. ⌜ at ≡ slotStart f k ⌝ }
 {
-    2048 * f + 256 * k
+    SIZE_LIMIT * (QUEUE_LIMIT as usize * f + k)
 }
 
 // The slot of the packet that a departure took from the flow: the one before the flow's first.

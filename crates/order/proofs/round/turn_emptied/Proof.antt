@@ -8,11 +8,11 @@ use Rattle.order.proofs.round.turn_emptied.Tie as tie
 raised-requires : tie.Need-raised-requires
 raised-requires c κs = (c .pre .1 .0 .2, weight-small (c .args .left) (c .pre .0), c .pre .1 .0 .1, c .pre .1 .0 .3)
 
-sub-t6 : tie.Need-sub-t6
-sub-t6 c = c .before .before .pre .1 .0 .0
+sub-visits : tie.Need-sub-visits
+sub-visits c = c .before .before .pre .1 .0 .0
 
 returns : tie.Need-returns
 returns c = λ f line ready. emptied-law (held line (c .before .before .args .r)) ready (c .before .before .args .left) (c .before .before .pre .0) f (c .before .before .args .allowed) (c .before .before .args .sent) (c .before .raised .result) (c .before .raised .ensures) (c .before .before .pre .1 .1)
 
 pub turn-emptied-spec : {M : Type 1} → statement M
-turn-emptied-spec = tie.close (tie.spec raised-requires sub-t6 returns)
+turn-emptied-spec = tie.close (tie.spec raised-requires sub-visits returns)
