@@ -20,7 +20,7 @@ use Rattle.err.proofs.Flows.{at-put, at-others, first-in-range}
 use Rattle.err.proofs.Refusals.{MayOpen, may-open, MayOffer, may-offer}
 use Rattle.store.specs.Slots.{storeLength, nextSlotOf, written, held}
 use Rattle.store.specs.Calls.{AfterOffer, AfterDeparture, storeOffer, storeOfferRefusal, storeDepart, storeDepartRefusal}
-use Rattle.store.specs.Chain.{offering, departing, lent, back, Packet, stateAfter, storeAfter, accepting, leaving, taken, bytesOf, heldFrom, waitingBytes}
+use Rattle.store.specs.Chain.{offering, departing, lent, back, Packet, stateAfter, storeAfter, accepting, leaving, putOut, taken, bytesOf, heldFrom, waitingBytes}
 use Rattle.store.proofs.SlotLaws.{held-length, written-length}
 use Rattle.store.proofs.CallLaws.{at-zero, offer-may, offer-state, offer-refused, offer-stores, departs, depart-refused, depart-made, sent-departure}
 use Rattle.err.proofs.Departing.{Leaves, departed-leaves, idle-stays, never-refused}
@@ -216,11 +216,11 @@ module _ (s : Scheduler) (R : Rules s) (store : List ℕ) (whole : length store 
   departMade = storeDepart s (lent n store) out
 
   pub none-taken : (o : AfterDeparture) → sentBy (o .reply) ≡ [] → taken o ≡ []
-  unfolding taken
+  unfolding taken putOut
   none-taken o e = ap (map (λ (d : Sent). record { flow = d .flow; bytes = take (d .size) (o .out) })) e
 
   one-taken : (o : AfterDeparture) (d : Sent) → o .reply ≡ Departure d → taken o ≡ record { flow = d .flow; bytes = take (d .size) (o .out) } ∷ []
-  unfolding taken
+  unfolding taken putOut
   one-taken o d e = ap (λ (r : Reply). map (λ (d : Sent). record { flow = d .flow; bytes = take (d .size) (o .out) }) (sentBy r)) e
 
   -- Where a packet leaves, all of the store was lent, and the outgoing buffer begins with what the flow's first slot held.

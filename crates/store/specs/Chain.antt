@@ -9,6 +9,7 @@ use Rattle.err.specs.Model.{Scheduler, flowAt, newScheduler}
 use Rattle.err.specs.Steps.{nextSlot}
 use Rattle.err.specs.Calls.{opened}
 use Rattle.err.specs.Replies.{Said, told, ofAnswer, ofReply, sentBy}
+use Rattle.err.specs.declared.Reply.{Reply}
 use Rattle.err.specs.declared.Sent.{Sent}
 use Rattle.err.specs.Chain.{Call}
 use Rattle.err.specs.Chain as SizeCall
@@ -63,9 +64,12 @@ accepting s store (opening f weight) = []
 accepting s store (offering f packet n) = ifZero (storeOfferRefusal s f packet (lent n store)) (record { flow = f; bytes = packet } ∷ []) []
 accepting s store (departing n out) = []
 
--- The packet that leaves, if one does: its bytes are the first of the outgoing buffer after the call, as many as the reply's size.
+-- The packet that leaves, if the reply tells of one: its bytes are the first of the outgoing buffer after the call, as many as the reply's size.
+unfoldable pub putOut : Reply → List ℕ → List Packet
+putOut reply out = map (λ (d : Sent). record { flow = d .flow; bytes = take (d .size) out }) (sentBy reply)
+
 unfoldable pub taken : AfterDeparture → List Packet
-taken o = map (λ (d : Sent). record { flow = d .flow; bytes = take (d .size) (o .out) }) (sentBy (o .reply))
+taken o = putOut (o .reply) (o .out)
 
 unfoldable pub leaving : Scheduler → List ℕ → StoreCall → List Packet
 leaving s store resetting = []
