@@ -3,12 +3,12 @@
 ghost use mathlib.Core.Path.{_≡_};
 ghost use lib.ListN.{length};
 ghost use Rattle.store.specs.Slots.{storeLength};
-use draws::Phase;
+use err::Reply;
+use random_calls::draws;
+use random_calls::fills;
+use store::STORE_LENGTH;
 use store::Site;
 
-mod calls;
-mod draws;
-mod fills;
 mod lines;
 mod sums;
 
@@ -36,7 +36,7 @@ fn run(store: &mut [u8], out: &mut [u8])
 {
     let mut counts = [0u64; 13];
     let mut site = Site::new();
-    let mut phase = Phase {
+    let mut phase = draws::Phase {
         x: SEED,
         width: 1,
         load: 512,
@@ -45,14 +45,29 @@ fn run(store: &mut [u8], out: &mut [u8])
     let mut n: u64 = 0;
     while n < CALLS {
         phase = draws::phase_at(n, phase);
-        let step = calls::call(site, phase, check, store, out);
+        let step = random_calls::call(site, phase, store, out);
         site = step.site;
         phase.x = step.x;
-        sums::count(&mut counts, step.which);
+        let made = step.made;
+        let told = sums::tell(check, made, out);
+        sums::count(&mut counts, told.which);
         n += 1;
-        check = reported(n, step.check, store, &counts);
+        check = reported(n, told.check, store, &counts);
     }
     lines::counts(&counts);
+}
+
+// A store one byte short and an outgoing buffer one byte short: the store is looked at first.
+fn row(store: &[u8], out: &mut [u8])
+    requires { ⌜ length (now store) ≡ storeLength ⌝ }
+    requires { ⌜ length (now out) ≡ 300 ⌝ }
+{
+    let site = Site::new();
+    let left = site.depart(&store[..STORE_LENGTH - 1], &mut out[..255]);
+    let reply = left.reply;
+    if let Reply::Refused(n) = reply {
+        lines::row(n as u64);
+    }
 }
 
 fn main() {
@@ -61,5 +76,5 @@ fn main() {
     fills::rows(&mut store);
     fills::rising(&mut out, 0, 3);
     run(&mut store, &mut out);
-    calls::row(&store, &mut out);
+    row(&store, &mut out);
 }

@@ -2,6 +2,7 @@
 use err::Answer;
 use err::Reply;
 use err::Sent;
+use random_calls::Made;
 
 // Where each count stands; that of refusal k stands k behind IDLE.
 pub const RESET: usize = 0;
@@ -20,7 +21,7 @@ pub struct Told {
     pub which: usize,
 }
 
-pub fn fold(check: u32, v: u32) -> u32 {
+fn fold(check: u32, v: u32) -> u32 {
     ((check as u64 * 16777619 + v as u64) % 4294967296) as u32
 }
 
@@ -42,7 +43,7 @@ fn refused(check: u32, k: u8) -> Told {
 }
 
 // An answer of open or offer; `done` is what is counted where the call was not refused.
-pub fn answered(check: u32, answer: Answer, done: usize) -> Told {
+fn answered(check: u32, answer: Answer, done: usize) -> Told {
     match answer {
         Answer::Done => Told {
             check: fold(check, 0),
@@ -63,7 +64,7 @@ fn departed(check: u32, d: Sent) -> u32 {
     fold_two(sized, d.allowance)
 }
 
-pub fn replied(check: u32, reply: Reply) -> Told {
+fn replied(check: u32, reply: Reply) -> Told {
     match reply {
         Reply::Departure(d) => Told {
             check: departed(check, d),
@@ -74,6 +75,25 @@ pub fn replied(check: u32, reply: Reply) -> Told {
             which: IDLE,
         },
         Reply::Refused(k) => refused(check, k),
+    }
+}
+
+// A departure call is followed by all bytes of the outgoing buffer, whatever the reply.
+pub fn tell(check: u32, made: Made, out: &[u8]) -> Told {
+    match made {
+        Made::Reset => Told {
+            check: fold(check, 0),
+            which: RESET,
+        },
+        Made::Open(answer) => answered(check, answer, OPENED),
+        Made::Offer(answer) => answered(check, answer, ACCEPTED),
+        Made::Depart(reply) => {
+            let first = replied(check, reply);
+            Told {
+                check: folded(first.check, out),
+                which: first.which,
+            }
+        }
     }
 }
 

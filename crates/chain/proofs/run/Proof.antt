@@ -28,6 +28,9 @@ call-requires c κs =
     let start = c .before .before .before .before .before .before .before .before .pre in
     (inv .0, (c .before .before .phase-at .ensures, (inv .3 ∙ start .0, inv .4 ∙ start .1)))
 
+tell-requires : tie.Need-tell-requires Inv-loop μ-loop
+tell-requires c κs = tt
+
 count-requires : tie.Need-count-requires Inv-loop μ-loop
 count-requires c κs = tt
 
@@ -42,10 +45,10 @@ loop-less c = search needs
 
 loop-again : tie.Need-loop-again Inv-loop μ-loop
 loop-again c =
-    let inv = c .before .before .before .before .before .before .before .before .before .before .before .before .before .before .before .loop .inv in
-    let phase = c .before .before .before .before .before .before .before .before .before .before .before .before .before .phase-at .ensures in
-    let made = c .before .before .before .before .before .before .before .before .before .before .call in
-    (made .ensures, phase .0, phase .1, made .kept .1 .1 .1 .0 ∙ inv .3, made .kept .1 .1 .1 .1 .0 ∙ inv .4)
+    let inv = c .before .before .before .before .before .before .before .before .before .before .before .before .before .before .before .before .before .loop .inv in
+    let phase = c .before .before .before .before .before .before .before .before .before .before .before .before .before .before .before .phase-at .ensures in
+    let made = c .before .before .before .before .before .before .before .before .before .before .before .before .call in
+    (made .ensures, phase .0, phase .1, made .kept .1 .1 .0 ∙ inv .3, made .kept .1 .1 .1 .0 ∙ inv .4)
 
 counts-requires : tie.Need-counts-requires Inv-loop μ-loop
 counts-requires c κs = tt
@@ -69,6 +72,7 @@ run-spec =
     loop-holds
     phase-at-requires
     call-requires
+    tell-requires
     count-requires
     add-n
     reported-requires

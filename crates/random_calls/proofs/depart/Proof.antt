@@ -1,8 +1,8 @@
 -- The first bytes of the store, and of the outgoing buffer, are lent.
 use lib.Seq.{length-front}
-use Rattle.chain.proofs.Prefix.{as-many, within}
-use Rattle.chain.proofs.calls.depart.Statement.{statement}
-use Rattle.chain.proofs.calls.depart.Tie as tie
+use Rattle.random_calls.proofs.Prefix.{as-many, within}
+use Rattle.random_calls.proofs.depart.Statement.{statement}
+use Rattle.random_calls.proofs.depart.Tie as tie
 
 depart-drawn-requires : tie.Need-depart-drawn-requires
 depart-drawn-requires c κs = tt
@@ -23,17 +23,11 @@ slice-aggregate-depart-2 c =
 depart-requires : tie.Need-depart-requires
 depart-requires c κs = c .before .before .before .before .before .pre .0
 
-replied-requires : tie.Need-replied-requires
-replied-requires c κs = tt
-
-folded-requires : tie.Need-folded-requires
-folded-requires c κs = tt
-
 same-length : tie.Need-same-length
-same-length c = length-front (c .before .before .before .before .before .before .before .before .before .before .before .before .args .out .now) (c .before .before .before .before .before .before .depart .last .1 .1 .0) (c .before .before .before .before .before .before .before .before .before .depart-drawn .result .room) (c .before .before .before .before .before .before .depart .kept .1 .1 .0)
+same-length c = length-front (c .before .before .before .before .before .before .before .before .before .args .out .now) (c .before .before .before .depart .last .1 .1 .0) (c .before .before .before .before .before .before .depart-drawn .result .room) (c .before .before .before .depart .kept .1 .1 .0)
 
 returns : tie.Need-returns
-returns c = c .before .before .before .before .before .before .depart .ensures .sound
+returns c = c .before .before .before .depart .ensures .sound
 
 pub depart-spec : {M : Type 1} → statement M
 depart-spec =
@@ -44,7 +38,5 @@ depart-spec =
     slice-relend-prefix-depart
     slice-aggregate-depart-2
     depart-requires
-    replied-requires
-    folded-requires
     same-length
     returns)

@@ -2,9 +2,9 @@
 use mathlib.Core.Path.{refl}
 use lib.Dec.{lit<}
 use lib.Seq.{length-front}
-use Rattle.chain.proofs.Prefix.{as-many, within}
-use Rattle.chain.proofs.calls.offer.Statement.{statement}
-use Rattle.chain.proofs.calls.offer.Tie as tie
+use Rattle.random_calls.proofs.Prefix.{as-many, within}
+use Rattle.random_calls.proofs.offer.Statement.{statement}
+use Rattle.random_calls.proofs.offer.Tie as tie
 
 offer-drawn-requires : tie.Need-offer-drawn-requires
 offer-drawn-requires c κs = c .before .pre .1 .0
@@ -34,14 +34,11 @@ slice-aggregate-offer-2 c =
 offer-requires : tie.Need-offer-requires
 offer-requires c κs = c .before .before .before .before .before .before .before .pre .0
 
-answered-requires : tie.Need-answered-requires
-answered-requires c κs = tt
-
 same-length : tie.Need-same-length
-same-length c = length-front (c .before .before .before .before .before .before .before .before .before .before .before .before .args .store .now) (c .before .before .before .before .offer .last .1 .1 .1 .0) (c .before .before .before .before .before .before .before .before .before .before .offer-drawn .result .lent) (c .before .before .before .before .offer .kept .1 .1 .1 .0)
+same-length c = length-front (c .before .before .before .before .before .before .before .before .before .before .before .args .store .now) (c .before .before .before .offer .last .1 .1 .1 .0) (c .before .before .before .before .before .before .before .before .before .offer-drawn .result .lent) (c .before .before .before .offer .kept .1 .1 .1 .0)
 
 returns : tie.Need-returns
-returns c = c .before .before .before .before .offer .ensures .sound
+returns c = c .before .before .before .offer .ensures .sound
 
 pub offer-spec : {M : Type 1} → statement M
 offer-spec =
@@ -55,6 +52,5 @@ offer-spec =
     slice-relend-prefix-offer
     slice-aggregate-offer-2
     offer-requires
-    answered-requires
     same-length
     returns)

@@ -1,2 +1,2 @@
 -- Prefix: how long the first bytes of a buffer are.
-mod Prefix
+pub mod Prefix

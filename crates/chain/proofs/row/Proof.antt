@@ -2,9 +2,9 @@
 use lib.Dec.{lit≤}
 use borrow.Author.Needs.{needs}
 use lib.Seq.{length-front}
-use Rattle.chain.proofs.Prefix.{as-many, within}
-use Rattle.chain.proofs.calls.row.Statement.{statement}
-use Rattle.chain.proofs.calls.row.Tie as tie
+use Rattle.random_calls.proofs.Prefix.{as-many, within}
+use Rattle.chain.proofs.row.Statement.{statement}
+use Rattle.chain.proofs.row.Tie as tie
 
 new-requires : tie.Need-new-requires
 new-requires c κs = tt
