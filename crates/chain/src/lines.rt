@@ -4,6 +4,7 @@ use crate::sums::DEPARTED;
 use crate::sums::IDLE;
 use crate::sums::OPENED;
 use crate::sums::RESET;
+use err::Reply;
 use libc::STDOUT_FILENO;
 
 fn number(name: &[u8], n: u64) {
@@ -11,31 +12,27 @@ fn number(name: &[u8], n: u64) {
     io::print_decimal(STDOUT_FILENO, n);
 }
 
-fn end() {
+// A number that ends its line.
+fn last_number(name: &[u8], n: u64) {
+    number(name, n);
     io::write_all(STDOUT_FILENO, b"\n");
 }
 
 pub fn line(n: u64, check: u32, departures: u64) {
     number(b"calls=", n);
     number(b" check=", check as u64);
-    number(b" departures=", departures);
-    end();
+    last_number(b" departures=", departures);
 }
 
-pub fn row(refusal: u64) {
-    number(b"row=", refusal);
-    end();
-}
-
-fn count(name: &[u8], n: u64) {
-    number(name, n);
-    end();
+pub fn row(reply: Reply) {
+    if let Reply::Refused(k) = reply {
+        last_number(b"row=", k as u64);
+    }
 }
 
 fn refused(k: u64, n: u64) {
     number(b"refused=", k);
-    number(b" count=", n);
-    end();
+    last_number(b" count=", n);
 }
 
 fn refusals(counts: &[u64; 13]) {
@@ -47,10 +44,10 @@ fn refusals(counts: &[u64; 13]) {
 }
 
 pub fn counts(counts: &[u64; 13]) {
-    count(b"reset count=", counts[RESET]);
-    count(b"opened count=", counts[OPENED]);
-    count(b"accepted count=", counts[ACCEPTED]);
-    count(b"departed count=", counts[DEPARTED]);
-    count(b"idle count=", counts[IDLE]);
+    last_number(b"reset count=", counts[RESET]);
+    last_number(b"opened count=", counts[OPENED]);
+    last_number(b"accepted count=", counts[ACCEPTED]);
+    last_number(b"departed count=", counts[DEPARTED]);
+    last_number(b"idle count=", counts[IDLE]);
     refusals(counts);
 }

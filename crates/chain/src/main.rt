@@ -58,16 +58,13 @@ fn run(store: &mut [u8], out: &mut [u8])
 }
 
 // A store one byte short and an outgoing buffer one byte short: the store is looked at first.
-fn row(store: &[u8], out: &mut [u8])
+fn both_short(store: &[u8], out: &mut [u8]) -> Reply
     requires { ⌜ length (now store) ≡ storeLength ⌝ }
     requires { ⌜ length (now out) ≡ 300 ⌝ }
 {
     let site = Site::new();
     let left = site.depart(&store[..STORE_LENGTH - 1], &mut out[..255]);
-    let reply = left.reply;
-    if let Reply::Refused(n) = reply {
-        lines::row(n as u64);
-    }
+    left.reply
 }
 
 fn main() {
@@ -76,5 +73,6 @@ fn main() {
     fills::rows(&mut store);
     fills::rising(&mut out, 0, 3);
     run(&mut store, &mut out);
-    row(&store, &mut out);
+    let reply = both_short(&store, &mut out);
+    lines::row(reply);
 }

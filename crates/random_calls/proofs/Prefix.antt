@@ -6,10 +6,10 @@ use native.Mathlib.Omega.{arith}
 use lib.ListN.{length, take}
 use lib.Seq.{length-take-le}
 
--- The first n bytes of a buffer that has as many are n.
-pub as-many : (n : ℕ) (l : List ℕ) → n ≤ length l → n ≡ length (take n l)
-as-many n l h = sym (length-take-le n l h)
-
 -- At most m bytes are within a buffer of m.
 pub within : (n m : ℕ) (l : List ℕ) → n ≤ m → length l ≡ m → n ≤ length l
 within n m l h e = omega arith
+
+-- The first n of them are n.
+pub as-many : (n m : ℕ) (l : List ℕ) → n ≤ m → length l ≡ m → n ≡ length (take n l)
+as-many n m l h e = sym (length-take-le n l (within n m l h e))

@@ -8,17 +8,13 @@ depart-drawn-requires : tie.Need-depart-drawn-requires
 depart-drawn-requires c κs = tt
 
 slice-aggregate-depart : tie.Need-slice-aggregate-depart
-slice-aggregate-depart c =
-    as-many (c .before .depart-drawn .result .lent) (c .before .before .before .before .args .store .now)
-    (within (c .before .depart-drawn .result .lent) 65536 (c .before .before .before .before .args .store .now) (c .before .depart-drawn .ensures .0) (c .before .before .before .before .pre .1 .0))
+slice-aggregate-depart c = as-many (c .before .depart-drawn .result .lent) 65536 (c .before .before .before .before .args .store .now) (c .before .depart-drawn .ensures .0) (c .before .before .before .before .pre .1 .0)
 
 slice-relend-prefix-depart : tie.Need-slice-relend-prefix-depart
 slice-relend-prefix-depart c = within (c .before .depart-drawn .result .room) 300 (c .before .before .before .before .args .out .now) (c .before .depart-drawn .ensures .1) (c .before .before .before .before .pre .1 .1)
 
 slice-aggregate-depart-2 : tie.Need-slice-aggregate-depart-2
-slice-aggregate-depart-2 c =
-    as-many (c .before .before .depart-drawn .result .room) (c .before .before .before .before .before .args .out .now)
-    (within (c .before .before .depart-drawn .result .room) 300 (c .before .before .before .before .before .args .out .now) (c .before .before .depart-drawn .ensures .1) (c .before .before .before .before .before .pre .1 .1))
+slice-aggregate-depart-2 c = as-many (c .before .before .depart-drawn .result .room) 300 (c .before .before .before .before .before .args .out .now) (c .before .before .depart-drawn .ensures .1) (c .before .before .before .before .before .pre .1 .1)
 
 depart-requires : tie.Need-depart-requires
 depart-requires c κs = c .before .before .before .before .before .pre .0

@@ -19,17 +19,13 @@ array-share-prefix-packet : tie.Need-array-share-prefix-packet
 array-share-prefix-packet c = within (c .before .before .before .offer-drawn .result .size) 258 (c .before .rising .last .0) (c .before .before .before .offer-drawn .ensures .0) (c .before .rising .kept .0)
 
 slice-aggregate-offer : tie.Need-slice-aggregate-offer
-slice-aggregate-offer c =
-    as-many (c .before .before .before .before .offer-drawn .result .size) (c .before .before .rising .last .0)
-    (within (c .before .before .before .before .offer-drawn .result .size) 258 (c .before .before .rising .last .0) (c .before .before .before .before .offer-drawn .ensures .0) (c .before .before .rising .kept .0))
+slice-aggregate-offer c = as-many (c .before .before .before .before .offer-drawn .result .size) 258 (c .before .before .rising .last .0) (c .before .before .before .before .offer-drawn .ensures .0) (c .before .before .rising .kept .0)
 
 slice-relend-prefix-offer : tie.Need-slice-relend-prefix-offer
 slice-relend-prefix-offer c = within (c .before .before .before .before .offer-drawn .result .lent) 65536 (c .before .before .before .before .before .before .args .store .now) (c .before .before .before .before .offer-drawn .ensures .3) (c .before .before .before .before .before .before .pre .1 .1)
 
 slice-aggregate-offer-2 : tie.Need-slice-aggregate-offer-2
-slice-aggregate-offer-2 c =
-    as-many (c .before .before .before .before .before .offer-drawn .result .lent) (c .before .before .before .before .before .before .before .args .store .now)
-    (within (c .before .before .before .before .before .offer-drawn .result .lent) 65536 (c .before .before .before .before .before .before .before .args .store .now) (c .before .before .before .before .before .offer-drawn .ensures .3) (c .before .before .before .before .before .before .before .pre .1 .1))
+slice-aggregate-offer-2 c = as-many (c .before .before .before .before .before .offer-drawn .result .lent) 65536 (c .before .before .before .before .before .before .before .args .store .now) (c .before .before .before .before .before .offer-drawn .ensures .3) (c .before .before .before .before .before .before .before .pre .1 .1)
 
 offer-requires : tie.Need-offer-requires
 offer-requires c κs = c .before .before .before .before .before .before .before .pre .0
