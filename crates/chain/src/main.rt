@@ -4,8 +4,8 @@ ghost use mathlib.Core.Path.{_≡_};
 ghost use lib.ListN.{length};
 ghost use Rattle.store.specs.Slots.{storeLength};
 use err::Reply;
-use random_calls::draws;
 use random_calls::fills;
+use random_calls::phases;
 use store::STORE_LENGTH;
 use store::Site;
 
@@ -36,7 +36,7 @@ fn run(store: &mut [u8], out: &mut [u8])
 {
     let mut counts = [0u64; 13];
     let mut site = Site::new();
-    let mut phase = draws::Phase {
+    let mut phase = phases::Phase {
         x: SEED,
         width: 1,
         load: 512,
@@ -44,7 +44,7 @@ fn run(store: &mut [u8], out: &mut [u8])
     let mut check: u32 = 2166136261;
     let mut n: u64 = 0;
     while n < CALLS {
-        phase = draws::phase_at(n, phase);
+        phase = phases::phase_at(n, phase);
         let step = random_calls::call(site, phase, store, out);
         site = step.site;
         phase.x = step.x;

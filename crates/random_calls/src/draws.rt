@@ -1,4 +1,4 @@
-// The numbers drawn: a linear congruential generator, and what the chain draws by it.
+// The numbers drawn: a linear congruential generator, and what each call draws by it.
 ghost use Prim.Native.Nat.{_<_, _≤_};
 ghost use Rattle.store.specs.Slots.{storeLength};
 use store::STORE_LENGTH;
@@ -7,13 +7,6 @@ use store::STORE_LENGTH;
 pub struct Drawn {
     pub x: u32,
     pub value: usize,
-}
-
-// The flows that offers draw from, and how many of 2048 calls offer, for 256 calls.
-pub struct Phase {
-    pub x: u32,
-    pub width: usize,
-    pub load: usize,
 }
 
 // A number below n.
@@ -25,24 +18,6 @@ pub fn draw(x: u32, n: usize) -> Drawn
     Drawn {
         x: next as u32,
         value: (next / 65536) as usize % n,
-    }
-}
-
-// A phase begins with every 256th call.
-pub fn phase_at(n: u64, phase: Phase) -> Phase
-    requires { ⌜ (0 < phase .width) × (phase .load < 1792) ⌝ }
-    ensures { λ p. ⌜ (0 < p .width) × (p .load < 1792) ⌝ }
-{
-    if n % 256 == 0 {
-        let width = draw(phase.x, 34);
-        let load = draw(width.x, 1280);
-        Phase {
-            x: load.x,
-            width: 1 + width.value,
-            load: 512 + load.value,
-        }
-    } else {
-        phase
     }
 }
 

@@ -4,7 +4,6 @@ ghost use Prim.Native.Nat.{_<_};
 ghost use lib.ListN.{length};
 ghost use Rattle.store.specs.Slots.{storeLength};
 ghost use Rattle.store.specs.Promised.{SoundSite};
-use draws::Phase;
 use draws::depart_drawn;
 use draws::draw;
 use draws::offer_drawn;
@@ -12,10 +11,12 @@ use draws::open_drawn;
 use err::Answer;
 use err::Reply;
 use fills::rising;
+use phases::Phase;
 use store::Site;
 
-pub mod draws;
+mod draws;
 pub mod fills;
+pub mod phases;
 
 // Which call was made, with its reply.
 pub enum Made {
