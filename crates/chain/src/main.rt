@@ -3,10 +3,8 @@
 ghost use mathlib.Core.Path.{_≡_};
 ghost use lib.ListN.{length};
 ghost use Rattle.store.specs.Slots.{storeLength};
-use err::Reply;
-use random_calls::fills;
-use random_calls::phases;
-use store::STORE_LENGTH;
+use chain_calls::fills;
+use chain_calls::phases;
 use store::Site;
 
 mod lines;
@@ -45,7 +43,7 @@ fn run(store: &mut [u8], out: &mut [u8])
     let mut n: u64 = 0;
     while n < CALLS {
         phase = phases::phase_at(n, phase);
-        let step = random_calls::call(site, phase, store, out);
+        let step = chain_calls::call(site, phase, store, out);
         site = step.site;
         phase.x = step.x;
         let made = step.made;
@@ -57,22 +55,12 @@ fn run(store: &mut [u8], out: &mut [u8])
     lines::counts(&counts);
 }
 
-// A store one byte short and an outgoing buffer one byte short: the store is looked at first.
-fn both_short(store: &[u8], out: &mut [u8]) -> Reply
-    requires { ⌜ length (now store) ≡ storeLength ⌝ }
-    requires { ⌜ length (now out) ≡ 300 ⌝ }
-{
-    let site = Site::new();
-    let left = site.depart(&store[..STORE_LENGTH - 1], &mut out[..255]);
-    left.reply
-}
-
 fn main() {
     let mut store = io::large_buffer();
     let mut out = [0u8; 300];
     fills::rows(&mut store);
     fills::rising(&mut out, 0, 3);
     run(&mut store, &mut out);
-    let reply = both_short(&store, &mut out);
+    let reply = chain_calls::both_short(&store, &mut out);
     lines::row(reply);
 }

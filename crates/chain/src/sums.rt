@@ -1,8 +1,8 @@
 // The checksum, and how often each reply was given.
+use chain_calls::Made;
 use err::Answer;
 use err::Reply;
 use err::Sent;
-use random_calls::Made;
 
 // Where each count stands; that of refusal k stands k behind IDLE.
 pub const RESET: usize = 0;

@@ -2,9 +2,9 @@
 use mathlib.Core.Path.{refl}
 use lib.Dec.{lit<}
 use lib.Seq.{length-front}
-use Rattle.random_calls.proofs.Prefix.{as-many, within}
-use Rattle.random_calls.proofs.offer.Statement.{statement}
-use Rattle.random_calls.proofs.offer.Tie as tie
+use Rattle.chain_calls.proofs.Prefix.{as-many, within}
+use Rattle.chain_calls.proofs.offer.Statement.{statement}
+use Rattle.chain_calls.proofs.offer.Tie as tie
 
 offer-drawn-requires : tie.Need-offer-drawn-requires
 offer-drawn-requires c κs = c .before .pre .1 .0

@@ -2,9 +2,9 @@
 use lib.Dec.{lit≤}
 use borrow.Author.Needs.{needs}
 use lib.Seq.{length-front}
-use Rattle.random_calls.proofs.Prefix.{as-many, within}
-use Rattle.chain.proofs.both_short.Statement.{statement}
-use Rattle.chain.proofs.both_short.Tie as tie
+use Rattle.chain_calls.proofs.Prefix.{as-many, within}
+use Rattle.chain_calls.proofs.both_short.Statement.{statement}
+use Rattle.chain_calls.proofs.both_short.Tie as tie
 
 new-requires : tie.Need-new-requires
 new-requires c κs = tt

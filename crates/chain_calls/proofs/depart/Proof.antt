@@ -1,8 +1,8 @@
 -- The first bytes of the store, and of the outgoing buffer, are lent.
 use lib.Seq.{length-front}
-use Rattle.random_calls.proofs.Prefix.{as-many, within}
-use Rattle.random_calls.proofs.depart.Statement.{statement}
-use Rattle.random_calls.proofs.depart.Tie as tie
+use Rattle.chain_calls.proofs.Prefix.{as-many, within}
+use Rattle.chain_calls.proofs.depart.Statement.{statement}
+use Rattle.chain_calls.proofs.depart.Tie as tie
 
 depart-drawn-requires : tie.Need-depart-drawn-requires
 depart-drawn-requires c κs = tt

@@ -3,8 +3,8 @@ use Prim.Native.Nat.{_-_, _≤_}
 use mathlib.Core.Path.{_≡_}
 use lib.ListN.{length}
 use borrow.Author.Needs.{needs}
-use Rattle.random_calls.proofs.fills.rows.Statement.{statement}
-use Rattle.random_calls.proofs.fills.rows.Tie as tie
+use Rattle.chain_calls.proofs.fills.rows.Statement.{statement}
+use Rattle.chain_calls.proofs.fills.rows.Tie as tie
 
 abbrev Inv-loop : tie.InvT-loop
 Inv-loop store₀ i₀ store i = (i ≤ length store₀) × (length store ≡ length store₀)

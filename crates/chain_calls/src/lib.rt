@@ -1,4 +1,4 @@
-// One random store call as reference/CHAIN.md defines it: what it is drawn with, and what its buffers hold at first.
+// The calls of chain: one random store call as reference/CHAIN.md defines it, and the bench row on the store's length.
 ghost use mathlib.Core.Path.{_≡_};
 ghost use Prim.Native.Nat.{_<_};
 ghost use lib.ListN.{length};
@@ -12,6 +12,7 @@ use err::Answer;
 use err::Reply;
 use fills::rising;
 use phases::Phase;
+use store::STORE_LENGTH;
 use store::Site;
 
 mod draws;
@@ -118,4 +119,14 @@ pub fn call(site: Site, phase: Phase, store: &mut [u8], out: &mut [u8]) -> Step
         return offer(site, x, phase.width, store);
     }
     depart(site, x, store, out)
+}
+
+// A store one byte short and an outgoing buffer one byte short: the store is looked at first.
+pub fn both_short(store: &[u8], out: &mut [u8]) -> Reply
+    requires { ⌜ length (now store) ≡ storeLength ⌝ }
+    requires { ⌜ length (now out) ≡ 300 ⌝ }
+{
+    let site = Site::new();
+    let left = site.depart(&store[..STORE_LENGTH - 1], &mut out[..255]);
+    left.reply
 }

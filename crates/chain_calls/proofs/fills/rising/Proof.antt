@@ -5,8 +5,8 @@ use native.Mathlib.Omega.{arith}
 use native.Mathlib.Nat.{mul-le-mul}
 use lib.ListN.{length}
 use borrow.Author.Needs.{needs}
-use Rattle.random_calls.proofs.fills.rising.Statement.{statement}
-use Rattle.random_calls.proofs.fills.rising.Tie as tie
+use Rattle.chain_calls.proofs.fills.rising.Statement.{statement}
+use Rattle.chain_calls.proofs.fills.rising.Tie as tie
 
 abbrev Inv-loop : tie.InvT-loop
 Inv-loop bytes₀ first step j₀ bytes j = (j ≤ length bytes₀) × (length bytes ≡ length bytes₀)

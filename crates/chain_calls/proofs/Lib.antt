@@ -1,2 +1,2 @@
 -- Prefix: how long the first bytes of a buffer are.
-pub mod Prefix
+mod Prefix

@@ -1,8 +1,8 @@
 -- What is drawn is a remainder.
 use native.Mathlib.Nat.{mod-lt}
 use borrow.Author.Needs.{needs}
-use Rattle.random_calls.proofs.draws.draw.Statement.{statement}
-use Rattle.random_calls.proofs.draws.draw.Tie as tie
+use Rattle.chain_calls.proofs.draws.draw.Statement.{statement}
+use Rattle.chain_calls.proofs.draws.draw.Tie as tie
 
 mul-next : tie.Need-mul-next
 mul-next c = search needs
