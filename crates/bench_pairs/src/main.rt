@@ -1,5 +1,6 @@
 // The loop `pairs` of bench/plain/README.md: one offer and one departure at a time.
 ghost use Prim.Native.Nat.{_≤_, _<_};
+ghost use Rattle.err.specs.Limits.{flowLimit};
 ghost use Rattle.order.specs.Encoding.{Sound};
 use err::FLOW_LIMIT;
 use loops::sums;
@@ -8,7 +9,7 @@ use order::State;
 
 // The flows open, with two packets waiting in each.
 fn begun(flows: usize) -> State
-    requires { ⌜ flows ≤ 32 ⌝ }
+    requires { ⌜ flows ≤ flowLimit ⌝ }
     ensures { λ s. ⌜ Sound s ⌝ }
 {
     let mut s = loops::opened(flows);

@@ -2,6 +2,7 @@
 ghost use mathlib.Core.Path.{_≡_};
 ghost use Prim.Native.Nat.{_≤_, _<_};
 ghost use lib.ListN.{length};
+ghost use Rattle.err.specs.Limits.{sizeLimit};
 ghost use Rattle.store.specs.Promised.{SoundSite};
 use err::Reply;
 use err::SIZE_LIMIT;
@@ -26,7 +27,7 @@ fn opened() -> Site
 
 // Byte j is (j × 7) mod 256.
 fn filled() -> [u8; SIZE_LIMIT]
-    ensures { λ p. ⌜ 256 ≡ length p ⌝ }
+    ensures { λ p. ⌜ sizeLimit ≡ length p ⌝ }
 {
     let mut packet = [0u8; SIZE_LIMIT];
     let mut j = 0;
@@ -41,6 +42,7 @@ fn filled() -> [u8; SIZE_LIMIT]
 fn replied(check: u32, reply: Reply, out: &[u8; SIZE_LIMIT]) -> u32 {
     let told = sums::replied(check, reply);
     if let Reply::Departure(d) = reply {
+        // no contract is asked for the size, so that any reply has a byte here; sizes are 1 to 256
         let last = std::num::wrapping_sub_u16(d.size, 1) % 256;
         sums::fold_byte(sums::fold_byte(told, out[0]), out[last as usize])
     } else {
@@ -49,7 +51,7 @@ fn replied(check: u32, reply: Reply, out: &[u8; SIZE_LIMIT]) -> u32 {
 }
 
 fn pairs(size: usize, n: u64) -> u32
-    requires { ⌜ (0 < size) × (size ≤ 256) ⌝ }
+    requires { ⌜ (0 < size) × (size ≤ sizeLimit) ⌝ }
 {
     let mut site = opened();
     let mut packet = filled();
