@@ -7,8 +7,9 @@ use native.Mathlib.Omega.{arith}
 use borrow.Author.Tests.{eq-eqb, ne-eqb}
 use Rattle.err.specs.Model.{Flow}
 use Rattle.err.specs.declared.Sent.{Sent}
+use Rattle.err.proofs.Line.{same-or-other}
 use Rattle.account.specs.Stretch.{sumOf, bytes, onePlusMark}
-use Rattle.account.proofs.Circle.{Circle, Move, round-starts, turn-opens, turn-stays-open, turn-ends, flow-runs-empty, flow-joins, packet-joins, flow-opens, Run, stands, moves, follows, Waits, onAccount, same-or-other, weights-same, surpluses-same}
+use Rattle.account.proofs.Circle.{Circle, Move, round-starts, turn-opens, turn-stays-open, turn-ends, flow-runs-empty, flow-joins, packet-joins, flow-opens, Run, stands, moves, follows, Waits, onAccount, weights-same, surpluses-same}
 use Rattle.account.proofs.Sums.{sum-append}
 
 -- The weight of a flow that waits never changes: only a flow that is not open can be opened.

@@ -16,9 +16,9 @@ use Rattle.err.specs.Rules.{count, RoundRules, Rules}
 use Rattle.err.specs.declared.Serving.{Serving}
 use Rattle.err.specs.declared.Serving.the-variants.{NoTurn, Turn}
 use Rattle.err.proofs.Counts.{count-append, count-parts, count-behind, count-self, count-other}
-use Rattle.account.proofs.Circle.{Circle, circle, circleOf, visitsInLine, inTurn, thisRound, onAccount, toCome, Waits, same-or-other}
+use Rattle.err.proofs.Line.{same-or-other, waiting-is-active}
+use Rattle.account.proofs.Circle.{Circle, circle, circleOf, visitsInLine, inTurn, thisRound, onAccount, toCome, Waits}
 use Rattle.account.proofs.Order.{leads, order, leader-in-front}
-use Rattle.account.proofs.Rounds.{waiting-is-active}
 use Rattle.account.proofs.Within.{Within}
 
 -- What the rules of the state say of a flow that waits: it stands once; out of its turn it has at most k on account; and while it has a turn of this

@@ -19,34 +19,12 @@ use Rattle.err.specs.declared.Serving.{Serving}
 use Rattle.err.specs.declared.Serving.the-variants.{NoTurn, Turn}
 use Rattle.err.specs.declared.Count.{Count}
 use Rattle.err.specs.declared.Count.the-variants.{Refused as CountRefused}
-use Rattle.err.proofs.Flows.{put-back}
+use Rattle.err.proofs.Departing.{SendsOrStays, sends, stays, sends-or-stays}
+use Rattle.err.proofs.Chains.{chain-append}
 use Rattle.account.specs.Stretch.{Waiting, WaitingAfterEvery, sentIn, turnThen, turnsOf, completing, turnsIn, singly, oneByOne}
 use Rattle.account.proofs.Runs.{waited-before-all}
 
 -- ---- a departure call either sends a packet or changes nothing
-
-served-replies : (r : Round) (x : Flow) (f allowed sent : ℕ)
-    → served r x f allowed sent .reply ≡ Departure (record { flow = f; size = firstSize x; mark = r .mark; allowance = allowed })
-unfolding served settled
-served-replies r x f allowed sent =
-    go (turnEnds allowed (sent + firstSize x) (drop 1 (x .queue))) (Departure (record { flow = f; size = firstSize x; mark = r .mark; allowance = allowed }))
-  where
-    go : (b : Bool) (d : Reply) → settled b r (firstLeft x) f allowed (sent + firstSize x) d .reply ≡ d
-    go true d = refl
-    go false d = refl
-
-abbrev SendsOrStays : Scheduler → Type 0
-SendsOrStays s = ((d : Sent) × (departed s .reply ≡ Departure d)) ⊎ ((departed s .reply ≡ Idle) × (departed s .state ≡ s))
-
-sends-or-stays : (s : Scheduler) → SendsOrStays s
-unfolding departed visit visitBy
-sends-or-stays s = go (s .flows) (s .round .line) (s .round .visits) (s .round .mark) (s .round .running) (s .round .turn)
-  where
-    go : (flows : List Flow) (line : List ℕ) (visits mark running : ℕ) (turn : Serving)
-        → SendsOrStays (record { flows = flows; round = record { line = line; visits = visits; mark = mark; running = running; turn = turn } })
-    go flows line visits mark running (Turn f allowed sent) = inl (_, served-replies _ _ f allowed sent)
-    go flows [] visits mark running NoTurn = inr (refl, put-back (record { flows = flows; round = record { line = []; visits = visits; mark = mark; running = running; turn = NoTurn } }) 0)
-    go flows (f ∷ line) visits mark running NoTurn = inl (_, served-replies _ _ f _ 0)
 
 abbrev SendsNothing : Reply → Type 0
 SendsNothing (Departure d) = ⊥
@@ -68,8 +46,8 @@ still-after : (n : ℕ) (s : Scheduler) → SendsNothing (departed s .reply) →
 still-after n s nothing = go (sends-or-stays s)
   where
     go : SendsOrStays s → Still n (departed s .state)
-    go (inl (d, e)) = absurd (subst SendsNothing e nothing)
-    go (inr (e, q)) = subst (Still n) (sym q) (idle-is-still n s e q)
+    go (sends d e) = absurd (subst SendsNothing e nothing)
+    go (stays e q t l) = subst (Still n) (sym q) (idle-is-still n s e q)
 
 -- ---- a burst, one departure at a time
 
@@ -155,11 +133,6 @@ waits-singly (suc n) f h w = go (departed (h .state) .reply) (still-after n (h .
     go (Refused k) still w more = (w, more (subst (λ (s : Scheduler). Waiting s f) (sym (still tt .state-stays)) w))
 
 -- ---- calls one after the other
-
-pub chain-append : (h : History) (a b : List Call) → chain h (a ++ b) ≡ chain (chain h a) b
-unfolding chain
-chain-append h [] b = refl
-chain-append h (c ∷ a) b = chain-append (next h c) a b
 
 pub sent-append : (h : History) (a b : List Call) → sentIn h (a ++ b) ≡ sentIn h a ++ sentIn (chain h a) b
 unfolding chain sentIn

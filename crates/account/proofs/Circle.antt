@@ -5,7 +5,6 @@ use Prim.Native.Nat.{ℕ, _+_, _*_, _-_, _≤_, _<_, max}
 use mathlib.Core.Path.{_≡_, sym, ap, _∙_, subst}
 use mathlib.Core.List.{List, [], _∷_, _++_}
 use mathlib.Core.Bool.{cond}
-use native.Mathlib.Decide.{ℕ-discrete}
 use lib.ListN.{length, take, drop}
 use lib.Dec.{eqb}
 use Rattle.err.specs.Model.{Flow, Scheduler, flowAt}
@@ -14,7 +13,7 @@ use Rattle.err.specs.Rules.{count, activity}
 use Rattle.err.specs.declared.Sent.{Sent}
 use Rattle.err.specs.declared.Serving.{Serving}
 use Rattle.err.specs.declared.Serving.the-variants.{NoTurn, Turn}
-use Rattle.err.proofs.Line.{OnlyAt}
+use Rattle.err.proofs.Line.{OnlyAt, same-or-other}
 
 pub record Circle : Type 0 where
   pub flow : ℕ → Flow
@@ -139,10 +138,6 @@ pub data Run (Wanted : (ℕ → Flow) → Type 0) : Circle → Circle → List S
   follows : {c c′ c″ : Circle} {l l′ e e′ : List Sent} → Run Wanted c c′ l e → Run Wanted c′ c″ l′ e′ → Run Wanted c c″ (l ++ l′) (e ++ e′)
 
 -- ---- what a renewed flow leaves as it was
-
--- A statement on f, by whether f is g.
-pub same-or-other : (P : ℕ → Type 0) (g f : ℕ) → P g → ((f ≡ g → ⊥) → P f) → P f
-same-or-other P g f here there = elim (ℕ-discrete f g) [ yes q ↦ subst P (sym q) here | no q ↦ there q ]
 
 module _ {g surplus : ℕ} {flow flow′ : ℕ → Flow} (new : Renewed g surplus flow flow′) where
   pub weights-same : (f : ℕ) → flow′ f .weight ≡ flow f .weight

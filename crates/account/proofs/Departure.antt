@@ -26,50 +26,15 @@ use Rattle.err.proofs.Rounding.{raised-at-most}
 use Rattle.err.proofs.Line.{OnlyAt}
 use Rattle.err.proofs.Line.{round-starts as rules-when-a-round-starts}
 use Rattle.err.proofs.Keeps.{weighs}
-use Rattle.err.proofs.Flows.{at-put, at-others, put-back, waiting-in-reach, first-in-range}
+use Rattle.err.proofs.Flows.{at-others, put-back, waiting-in-reach, first-in-range, put-relates, here-now}
+use Rattle.err.proofs.Parts.{flowMadeOf, roundMadeOf, schedulerMadeOf}
+use Rattle.err.proofs.Departing.{departed-adds-none}
 use Rattle.account.specs.Stretch.{turnThen, turnsOf}
 use Rattle.account.proofs.Circle.{Circle, circle, circleOf, round-starts, turn-opens, turn-stays-open, turn-ends, flow-runs-empty, Run, stands, moves, follows, Renewed, Waits, Backwards, departure}
 
-abbrev pub flowOf : ℕ → ℕ → ℕ → List ℕ → Flow
-flowOf w σ k q = record { weight = w; surplus = σ; slot = k; queue = q }
-
-abbrev roundOf : List ℕ → ℕ → ℕ → ℕ → Serving → Round
-roundOf line visits mark running turn = record { line = line; visits = visits; mark = mark; running = running; turn = turn }
-
--- What relates a flow to what is put in its place relates every flow to what it then is.
-pub put-relates : (R : Flow → Flow → Type 0) → ((x : Flow) → R x x) → (flows : List Flow) (g : ℕ) (y : Flow) → R (getD flows g closedFlow) y
-    → (f : ℕ) → R (getD flows f closedFlow) (getD (set flows g y) f closedFlow)
-put-relates R same [] g y r f = same closedFlow
-put-relates R same (x ∷ flows) zero y r zero = r
-put-relates R same (x ∷ flows) zero y r (suc f) = same (getD flows f closedFlow)
-put-relates R same (x ∷ flows) (suc g) y r zero = same x
-put-relates R same (x ∷ flows) (suc g) y r (suc f) = put-relates R same flows g y r f
-
--- Serving takes the first packet and no other, so a flow that waits after it waited before.
-served-waited : (r : Round) (x : Flow) (f allowed sent : ℕ) → Waits (served r x f allowed sent .flow) → Waits x
-unfolding served settled firstLeft excessKept
-served-waited r x f allowed sent =
-    go (turnEnds allowed (sent + firstSize x) (drop 1 (x .queue))) (Departure (departure f (firstSize x) (r .mark) allowed))
-  where
-    waited : (q : List ℕ) → 1 ≤ length (drop 1 q) → 1 ≤ length q
-    waited [] h = h
-    waited (p ∷ q) h = omega arith
-
-    go : (b : Bool) (d : Reply) → Waits (settled b r (firstLeft x) f allowed (sent + firstSize x) d .flow) → Waits x
-    go true d w = waited (x .queue) w
-    go false d w = waited (x .queue) w
-
 -- A flow that waits after a departure waited before it.
 pub waited-before : (s : Scheduler) (f : ℕ) → Waits (flowAt (departed s .state) f) → Waits (flowAt s f)
-unfolding departed put visit visitBy surplusCleared
-waited-before s =
-    put-relates (λ x y. Waits y → Waits x) (λ x w. w) (s .flows) (whose (s .round)) (nextVisit s .flow)
-    (go (s .round .turn) (s .round .line) (s .round) (flowAt s (whose (s .round))))
-  where
-    go : (turn : Serving) (line : List ℕ) (r : Round) (x : Flow) → Waits (visitBy turn line r x .flow) → Waits x
-    go (Turn f allowed sent) line r x w = served-waited r x f allowed sent w
-    go NoTurn [] r x w = w
-    go NoTurn (f ∷ line) r x w = served-waited _ (surplusCleared x) f _ 0 w
+waited-before s f w = omega (arith, departed-adds-none s f)
 
 -- A flow whose turn allows anything weighs something.
 weighs-in-turn : (w mark allowed sent : ℕ) → sent < allowed → allowed ≤ w * (1 + mark) → 1 ≤ w
@@ -83,17 +48,14 @@ raised-within running w mark allowed sent total low most =
     raised-at-most running w allowed total (max running (total - allowed)) (weighs-in-turn w mark allowed sent low most) (le-max-left running (total - allowed)) (omega arith)
 
 module _ (s : Scheduler) (R : Rules s) {g : ℕ} (reach : g < flowLimit) (y : Flow) (r : Round) where
-  pub here-now : flowAt (put s g y r) g ≡ y
-  here-now = at-put s g y r (omega (arith, R .all-flows))
-
   -- Where flow g is put in place, with the weight that it had.
   pub renewed : (surplus : ℕ) (flow : ℕ → Flow) → OnlyAt g (flowAt s) flow → y .weight ≡ flow g .weight → y .surplus ≡ surplus
       → Renewed g surplus flow (flowAt (put s g y r))
   renewed surplus flow only weight now =
       record {
         others-same = λ f d. at-others s g y r f d ∙ sym (only f d);
-        weight-same = ap (λ (x : Flow). x .weight) here-now ∙ weight;
-        surplus-now = ap (λ (x : Flow). x .surplus) here-now ∙ now;
+        weight-same = ap (λ (x : Flow). x .weight) (here-now s R reach y r) ∙ weight;
+        surplus-now = ap (λ (x : Flow). x .surplus) (here-now s R reach y r) ∙ now;
       }
 
 -- A flow that stands has a packet waiting.
@@ -114,21 +76,21 @@ module _ (Wanted : (ℕ → Flow) → Type 0) (s : Scheduler) (R : Rules s) (r :
   abbrev turning : Circle
   turning = circle flow (drop (r .visits - 1) (r .line)) (take (r .visits - 1) (r .line)) (Turn g allowed sent) (r .mark) (r .running)
 
-  serving-runs : (q : List ℕ) → flow g ≡ flowOf w σ k q → Sizes q → (q ≡ [] → ⊥) → Serves Wanted s g turning (served r (flowOf w σ k q) g allowed sent)
+  serving-runs : (q : List ℕ) → flow g ≡ flowMadeOf w σ k q → Sizes q → (q ≡ [] → ⊥) → Serves Wanted s g turning (served r (flowMadeOf w σ k q) g allowed sent)
   unfolding served settled firstLeft turnKept turnClosed excessKept put turnThen
   serving-runs [] here sizes waits = absurd (waits refl)
   serving-runs (p ∷ []) here sizes waits =
       moves
       (flow-runs-empty
-      (renewed s R reach (flowOf w 0 (nextSlot k) []) r 0 flow only (sym (ap (λ (x : Flow). x .weight) here)) refl)
+      (renewed s R reach (flowMadeOf w 0 (nextSlot k) []) r 0 flow only (sym (ap (λ (x : Flow). x .weight) here)) refl)
       (first-in-range sizes .0)
       low
       (raised-within (r .running) w (r .mark) allowed sent (sent + p) low most)
-      (λ v. absurd (omega (arith, v, ap (λ (x : Flow). length (x .queue)) (here-now s R reach (flowOf w 0 (nextSlot k) []) r)))))
+      (λ v. absurd (omega (arith, v, ap (λ (x : Flow). length (x .queue)) (here-now s R reach (flowMadeOf w 0 (nextSlot k) []) r)))))
   serving-runs (p ∷ (p′ ∷ q)) here sizes waits = go (leb allowed (sent + p)) refl
     where
       x : Flow
-      x = flowOf w σ k (p ∷ (p′ ∷ q))
+      x = flowMadeOf w σ k (p ∷ (p′ ∷ q))
 
       weight : w ≡ flow g .weight
       weight = sym (ap (λ (y : Flow). y .weight) here)
@@ -142,7 +104,7 @@ module _ (Wanted : (ℕ → Flow) → Type 0) (s : Scheduler) (R : Rules s) (r :
           rw (drop-append-le (r .visits - 1) (r .line) (g ∷ []) fits, take-append-le (r .visits - 1) (r .line) (g ∷ []) fits)
           (moves
           (turn-ends
-          (renewed s R reach (flowOf w (sent + p - allowed) (nextSlot k) (p′ ∷ q)) r (sent + p - allowed) flow only weight refl)
+          (renewed s R reach (flowMadeOf w (sent + p - allowed) (nextSlot k) (p′ ∷ q)) r (sent + p - allowed) flow only weight refl)
           (first-in-range sizes .0)
           low
           (raised-within (r .running) w (r .mark) allowed sent (sent + p) low most)
@@ -151,7 +113,7 @@ module _ (Wanted : (ℕ → Flow) → Type 0) (s : Scheduler) (R : Rules s) (r :
       go false e =
           moves
           (turn-stays-open
-          (renewed s R reach (flowOf w σ (nextSlot k) (p′ ∷ q)) r (flow g .surplus) flow only weight (sym (ap (λ (y : Flow). y .surplus) here)))
+          (renewed s R reach (flowMadeOf w σ (nextSlot k) (p′ ∷ q)) r (flow g .surplus) flow only weight (sym (ap (λ (y : Flow). y .surplus) here)))
           (first-in-range sizes .0))
 
 abbrev allowanceOf : Scheduler → ℕ → ℕ → ℕ
@@ -159,7 +121,7 @@ allowanceOf s g mark = allowance (flowAt s g .weight) mark (flowAt s g .surplus)
 
 -- The round in which g, the head of the line, has opened its turn.
 abbrev openedFor : Scheduler → ℕ → List ℕ → ℕ → ℕ → ℕ → Round
-openedFor s g line visits mark running = roundOf line (suc visits) mark running (Turn g (allowanceOf s g mark) 0)
+openedFor s g line visits mark running = roundMadeOf line (suc visits) mark running (Turn g (allowanceOf s g mark) 0)
 
 -- Steps 2 to 6, for the head of the line once a visit is left.
 module _ (Wanted : (ℕ → Flow) → Type 0) (back : Backwards Wanted) (s : Scheduler) (R : Rules s) (want : Wanted (flowAt s)) where
@@ -218,7 +180,7 @@ module _ (Wanted : (ℕ → Flow) → Type 0) (back : Backwards Wanted) where
       → Wanted (flowAt (departed s .state))
       → Run Wanted (circleOf s) (circleOf (departed s .state)) (sentBy (departed s .reply)) (turnsOf 1 s)
 
-  departs : (flows : List Flow) (line : List ℕ) (visits mark running : ℕ) (turn : Serving) → Departs (record { flows = flows; round = roundOf line visits mark running turn })
+  departs : (flows : List Flow) (line : List ℕ) (visits mark running : ℕ) (turn : Serving) → Departs (schedulerMadeOf flows line visits mark running turn)
   unfolding departed visit visitBy roundStarted turnOpened RoundRules turnsOf turnThen put
   departs flows line visits mark running (Turn g allowed sent) R final =
       serving-runs Wanted s R (s .round) g allowed sent (x .weight) (x .surplus) (x .slot) (flowAt s) (λ f d. refl)
@@ -233,7 +195,7 @@ module _ (Wanted : (ℕ → Flow) → Type 0) (back : Backwards Wanted) where
       final
     where
       s : Scheduler
-      s = record { flows = flows; round = roundOf line visits mark running (Turn g allowed sent) }
+      s = schedulerMadeOf flows line visits mark running (Turn g allowed sent)
 
       x : Flow
       x = flowAt s g
@@ -247,16 +209,16 @@ module _ (Wanted : (ℕ → Flow) → Type 0) (back : Backwards Wanted) where
       waits : x .queue ≡ [] → ⊥
       waits = standing-waits L (count-head g line)
   departs flows [] visits mark running NoTurn R final =
-      rw (put-back (record { flows = flows; round = roundOf [] visits mark running NoTurn }) 0) stands
+      rw (put-back (schedulerMadeOf flows [] visits mark running NoTurn) 0) stands
   departs flows (g ∷ line) zero mark running NoTurn R final =
-      let s : Scheduler = record { flows = flows; round = roundOf (g ∷ line) zero mark running NoTurn } in
+      let s : Scheduler = schedulerMadeOf flows (g ∷ line) zero mark running NoTurn in
       let want : Wanted (flowAt s) = back (flowAt s) (flowAt (departed s .state)) (waited-before s) final in
       follows
       (moves (round-starts (R .round-rules .stands-once)) want)
       (rw (drop-length line, take-length line) at
       (turn-runs Wanted back s R want g line (length line) running 0 (rules-when-a-round-starts (R .round-rules)) final))
   departs flows (g ∷ line) (suc visits) mark running NoTurn R final =
-      let s : Scheduler = record { flows = flows; round = roundOf (g ∷ line) (suc visits) mark running NoTurn } in
+      let s : Scheduler = schedulerMadeOf flows (g ∷ line) (suc visits) mark running NoTurn in
       turn-runs Wanted back s R (back (flowAt s) (flowAt (departed s .state)) (waited-before s) final) g line visits mark running (R .round-rules) final
 
   pub departure-runs : (s : Scheduler) → Departs s

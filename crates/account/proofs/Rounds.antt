@@ -11,6 +11,7 @@ use Rattle.err.specs.Choose.{ifEmpty}
 use Rattle.err.specs.Model.{Flow}
 use Rattle.err.specs.Rules.{count, activity}
 use Rattle.err.specs.declared.Sent.{Sent}
+use Rattle.err.proofs.Line.{waiting-is-active}
 use Rattle.account.specs.Stretch.{sumOf, onePlusMark}
 use Rattle.account.proofs.Circle.{Circle, Move, round-starts, turn-opens, turn-stays-open, turn-ends, flow-runs-empty, flow-joins, packet-joins, flow-opens, Run, stands, moves, follows, Waits, toCome}
 use Rattle.account.proofs.Sums.{sum-append}
@@ -24,14 +25,6 @@ turn-has-come f g mark rest = go (eqb f g)
     go : (b : Bool) → cond b (1 + mark) 0 + 0 + count f rest * (1 + mark) ≡ (cond b 1 0 + count f rest) * (1 + mark)
     go true = omega arith
     go false = omega arith
-
--- A flow with a packet waiting is active.
-pub waiting-is-active : (x : Flow) → Waits x → activity x ≡ 1
-waiting-is-active x = go (x .queue)
-  where
-    go : (q : List ℕ) → 1 ≤ length q → ifEmpty {A = ℕ} q 0 1 ≡ 1
-    go [] h = absurd (omega arith)
-    go (p ∷ q) h = refl
 
 module _ (i j : ℕ) where
   abbrev pub Even : Circle → Circle → List Sent → Type 0

@@ -21,11 +21,13 @@ use Rattle.err.specs.declared.Serving.the-variants.{NoTurn, Turn}
 use Rattle.err.specs.declared.Count.{Count}
 use Rattle.err.specs.declared.Count.the-variants.{Refused as CountRefused}
 use Rattle.err.proofs.Refusals.{may-open, may-offer}
-use Rattle.err.proofs.Flows.{at-others}
+use Rattle.err.proofs.Flows.{at-others, here-now}
 use Rattle.err.proofs.Keeps.{departed-keeps}
+use Rattle.err.proofs.Parts.{flowMadeOf}
+use Rattle.err.proofs.Departing.{departures-add-none}
 use Rattle.account.specs.Stretch.{turnThen, turnsOf, completing}
 use Rattle.account.proofs.Circle.{circleOf, visitsInLine, flow-joins, packet-joins, flow-opens, Run, stands, moves, follows, Renewed, Waits, Backwards}
-use Rattle.account.proofs.Departure.{flowOf, renewed, here-now, departure-runs, waited-before}
+use Rattle.account.proofs.Departure.{renewed, departure-runs}
 
 -- The visits left are visits of flows in line.
 visits-fit : (flow : ℕ → Flow) (r : Round) (turn : Serving) → RoundRules flow r turn → visitsInLine turn (r .visits) ≤ length (r .line)
@@ -35,9 +37,9 @@ visits-fit flow r (Turn g allowed sent) L = L .0 .visits-in-line
 
 module _ (Wanted : (ℕ → Flow) → Type 0) (s : Scheduler) (R : Rules s) where
   -- Step 1.
-  packet-runs : (g size : ℕ) (reach : g < flowLimit) (w σ k : ℕ) (q : List ℕ) → flowAt s g ≡ flowOf w σ k q
-      → Wanted (flowAt (put s g (packetJoined (flowOf w σ k q) size) (flowLined (s .round) g (flowOf w σ k q))))
-      → Run Wanted (circleOf s) (circleOf (put s g (packetJoined (flowOf w σ k q) size) (flowLined (s .round) g (flowOf w σ k q)))) [] []
+  packet-runs : (g size : ℕ) (reach : g < flowLimit) (w σ k : ℕ) (q : List ℕ) → flowAt s g ≡ flowMadeOf w σ k q
+      → Wanted (flowAt (put s g (packetJoined (flowMadeOf w σ k q) size) (flowLined (s .round) g (flowMadeOf w σ k q))))
+      → Run Wanted (circleOf s) (circleOf (put s g (packetJoined (flowMadeOf w σ k q) size) (flowLined (s .round) g (flowMadeOf w σ k q)))) [] []
   unfolding put packetJoined flowLined
   packet-runs g size reach w σ k [] here W =
       rw (drop-append-le n (s .round .line) (g ∷ []) fits, take-append-le n (s .round .line) (g ∷ []) fits)
@@ -55,15 +57,15 @@ module _ (Wanted : (ℕ → Flow) → Type 0) (s : Scheduler) (R : Rules s) wher
       not-waiting : Waits (flowAt s g) → ⊥
       not-waiting v = absurd (omega (arith, v, ap length empty))
 
-      new : Renewed g (flowAt s g .surplus) (flowAt s) (flowAt (put s g (flowOf w 0 k (size ∷ [])) (s .round)))
+      new : Renewed g (flowAt s g .surplus) (flowAt s) (flowAt (put s g (flowMadeOf w 0 k (size ∷ [])) (s .round)))
       new =
-          renewed s R reach (flowOf w 0 k (size ∷ [])) (s .round) (flowAt s g .surplus) (flowAt s) (λ f d. refl)
+          renewed s R reach (flowMadeOf w 0 k (size ∷ [])) (s .round) (flowAt s g .surplus) (flowAt s) (λ f d. refl)
           (sym (ap (λ (x : Flow). x .weight) here))
           (sym (R .flow-rules g .no-surplus-if-empty empty))
   packet-runs g size reach w σ k (p ∷ q) here W =
       moves
       (packet-joins
-      (renewed s R reach (flowOf w σ k ((p ∷ q) ++ (size ∷ []))) (s .round) (flowAt s g .surplus) (flowAt s) (λ f d. refl)
+      (renewed s R reach (flowMadeOf w σ k ((p ∷ q) ++ (size ∷ []))) (s .round) (flowAt s g .surplus) (flowAt s) (λ f d. refl)
       (sym (ap (λ (x : Flow). x .weight) here))
       (sym (ap (λ (x : Flow). x .surplus) here))))
       W
@@ -103,18 +105,7 @@ module _ (Wanted : (ℕ → Flow) → Type 0) (s : Scheduler) (R : Rules s) wher
 
 -- A flow that waits after some departures waited before them.
 pub waited-before-all : (n : ℕ) (s : Scheduler) (f : ℕ) → Waits (flowAt (departures n s .state) f) → Waits (flowAt s f)
-unfolding departures andThen
-waited-before-all zero s f w = w
-waited-before-all (suc n) s f w = go (departed s .reply) (waited-before-all n (departed s .state) f) w
-  where
-    t : Scheduler
-    t = departed s .state
-
-    go : (reply : Reply) → (Waits (flowAt (departures n t .state) f) → Waits (flowAt t f))
-        → Waits (flowAt (andThen reply t (departures n t) .state) f) → Waits (flowAt s f)
-    go (Departure d) more w = waited-before s f (more w)
-    go Idle more w = waited-before s f w
-    go (Refused k) more w = waited-before s f w
+waited-before-all n s f w = omega (arith, departures-add-none n s f)
 
 module _ (Wanted : (ℕ → Flow) → Type 0) (back : Backwards Wanted) where
   abbrev pub Runs : Scheduler → Scheduler → List Sent → List Sent → Type 0

@@ -41,11 +41,6 @@ nothing-forgotten (offering f size) l d = refl
 nothing-forgotten departing l d = refl
 nothing-forgotten (bursting n list) l d = refl
 
-pub rules-reached : (h : History) (calls : List Call) → Rules (h .state) → Rules (chain h calls .state)
-unfolding chain next
-rules-reached h [] R = R
-rules-reached h (c ∷ calls) R = rules-reached (next h c) calls (every-call-keeps (h .state) c R)
-
 both-back : (i j : ℕ) → Backwards (Both i j)
 both-back i j flow flow′ back w = (back i (w .0), back j (w .1))
 

@@ -13,6 +13,7 @@ use Rattle.err.specs.Chain.{Call, History, start, chain}
 use Rattle.err.specs.declared.Serving.{Serving}
 use Rattle.err.specs.declared.Serving.the-variants.{NoTurn, Turn}
 use Rattle.err.proofs.Keeps.{new-keeps, weighs}
+use Rattle.err.proofs.Chains.{chain-keeps}
 use Rattle.account.specs.Stretch.{Stretch, begun, ended, Waiting, WaitingAfterEvery, WaitingThroughout, ConsecutiveTurns, SomethingSent, bytesSent, bytes, sumOf, onePlusMark, onePlusMarks, sentIn, turnsIn, weightOf, surplusBefore, surplusAfter, largest, largestSinceReset, DifferByAtMost, DifferByLessThan}
 use Rattle.account.proofs.Circle.{circleOf, onAccount, held, Run}
 use Rattle.account.proofs.Sums.{largest-append, no-bytes}
@@ -21,7 +22,7 @@ use Rattle.account.proofs.Order.{Both, run-keeps-both}
 use Rattle.account.proofs.Within.{Within, within-more, run-stays-within, run-sends-bytes}
 use Rattle.account.proofs.Bound.{placed}
 use Rattle.account.proofs.Pair.{pair-bounded}
-use Rattle.account.proofs.Stretches.{rules-reached, stretch-runs, left-grows, Small, small-reached, new-is-small}
+use Rattle.account.proofs.Stretches.{stretch-runs, left-grows, Small, small-reached, new-is-small}
 
 -- ---- from any state that keeps the rules, however it came about
 
@@ -54,7 +55,7 @@ module _ (h : History) (calls : List Call) (R : Rules (h .state)) where
       both-then = run-keeps-both i j run both
 
       rules-then : Rules (chain h calls .state)
-      rules-then = rules-reached h calls R
+      rules-then = chain-keeps h calls R
 
       within-then : Within k (circleOf (chain h calls .state))
       within-then = run-stays-within k run sizes within
@@ -63,7 +64,7 @@ module _ (h : History) (calls : List Call) (R : Rules (h .state)) where
 
 rules-begun : (x : Stretch) → Rules (begun x .state)
 unfolding start
-rules-begun x = rules-reached start (x .before) new-keeps
+rules-begun x = chain-keeps start (x .before) new-keeps
 
 small-begun : (x : Stretch) → Small (begun x)
 unfolding start largest

@@ -20,15 +20,12 @@ use Rattle.err.specs.declared.Reply.{Reply}
 use Rattle.err.specs.declared.Reply.the-variants.{Departure, Idle, Refused}
 use Rattle.err.specs.declared.Sent.{Sent}
 use Rattle.err.proofs.Keeps.{new-closed, new-keeps, every-call-keeps, departed-keeps}
-use Rattle.err.proofs.Queues.{Departing, takes, idles, departing-is, idle-state, sizes-append, departed-queue, departures-queue, opened-queue, offered-queue, its-own}
+use Rattle.err.proofs.Departing.{departed-leaves, SendsOrStays, sends, stays, sends-or-stays, idle-stays, never-refused}
+use Rattle.err.proofs.Chains.{chain-keeps}
+use Rattle.err.proofs.Queues.{sizes-append, departed-queue, departures-queue, opened-queue, offered-queue, its-own}
 use Rattle.err.proofs.Standing.{nobody-waits}
 
 -- Every state that calls give keeps document 01's rules.
-pub chain-keeps : (h : History) (calls : List Call) → Rules (h .state) → Rules (chain h calls .state)
-unfolding chain next
-chain-keeps h [] R = R
-chain-keeps h (c ∷ calls) R = chain-keeps (next h c) calls (every-call-keeps (h .state) c R)
-
 pub every-state-keeps-the-rules : (calls : List Call) → Rules (chain start calls .state)
 unfolding start
 every-state-keeps-the-rules calls = chain-keeps start calls new-keeps
@@ -87,61 +84,23 @@ nothing-lost calls f = chain-balanced start calls new-keeps f (sym (ap (λ (y : 
 -- A departure is of the flow of the open turn or, with none open, of the head of the line; it is that flow's first packet.
 pub departs-the-first : (s : Scheduler) (d : Sent) → Rules s → departed s .reply ≡ Departure d
     → (d .flow ≡ whose (s .round)) × (flowAt s (d .flow) .queue ≡ d .size ∷ flowAt (departed s .state) (d .flow) .queue)
-unfolding departed
-departs-the-first s d R e = (who (departing-is s R), first)
-  where
-    first : flowAt s (d .flow) .queue ≡ d .size ∷ flowAt (departed s .state) (d .flow) .queue
-    first =
-        departed-queue s R (d .flow)
-        ∙ ap (λ (r : Reply). sizesOf (d .flow) (packetsOf (sentBy r)) ++ flowAt (departed s .state) (d .flow) .queue) e
-        ∙ ap (λ (l : List ℕ). l ++ flowAt (departed s .state) (d .flow) .queue) (its-own (d .flow) (d .size))
-
-    who : Departing s → d .flow ≡ whose (s .round)
-    who (takes q T) =
-        let told : nextVisit s .reply ≡ Departure (T .told) = T .reply-is in
-        let same : d ≡ T .told = cc in
-        ap (λ (k : Sent). k .flow) same ∙ T .flow-is
-    who (idles v t l) =
-        let idle : nextVisit s .reply ≡ Idle = ap (λ (k : Visit). k .reply) v in
-        let z : _≡_ {A = ℕ} 0 1 = cc in
-        absurd (omega arith)
+departs-the-first s d R e = let L = departed-leaves s R d e in (L .had-the-turn, L .first-in-queue)
 
 -- Idle exactly when nothing waits.
 pub idle-when-nothing-waits : (s : Scheduler) → Rules s → (departed s .reply ≡ Idle) ↔ ((f : ℕ) → flowAt s f .queue ≡ [])
-unfolding departed
-idle-when-nothing-waits s R = (only, if)
+idle-when-nothing-waits s R = (λ e. only e (sends-or-stays s), λ h. if h (sends-or-stays s))
   where
-    only : departed s .reply ≡ Idle → (f : ℕ) → flowAt s f .queue ≡ []
-    only e = by (departing-is s R)
-      where
-        by : Departing s → (f : ℕ) → flowAt s f .queue ≡ []
-        by (takes q T) = let r : nextVisit s .reply ≡ Departure (T .told) = T .reply-is in let z : _≡_ {A = ℕ} 0 1 = cc in absurd (omega arith)
-        by (idles v t l) = nobody-waits s R t l
+    only : departed s .reply ≡ Idle → SendsOrStays s → (f : ℕ) → flowAt s f .queue ≡ []
+    only e (sends d i) = let z : _≡_ {A = ℕ} 0 1 = cc in absurd (omega arith)
+    only e (stays i same t l) = nobody-waits s R t l
 
-    if : ((f : ℕ) → flowAt s f .queue ≡ []) → departed s .reply ≡ Idle
-    if h = by (departing-is s R)
-      where
-        by : Departing s → nextVisit s .reply ≡ Idle
-        by (takes {p} {q} e T) = let w : flowAt s (whose (s .round)) .queue ≡ [] = h (whose (s .round)) in let z : _≡_ {A = ℕ} 0 1 = cc in absurd (omega arith)
-        by (idles v t l) = ap (λ (k : Visit). k .reply) v
+    if : ((f : ℕ) → flowAt s f .queue ≡ []) → SendsOrStays s → departed s .reply ≡ Idle
+    if h (sends d i) = absurd (omega (arith, ap length (departed-leaves s R d i .first-in-queue), ap length (h (d .flow))))
+    if h (stays i same t l) = i
 
 -- Idle gives back the state as it was.
 pub idle-changes-nothing : (s : Scheduler) → Rules s → departed s .reply ≡ Idle → departed s .state ≡ s
-unfolding departed
-idle-changes-nothing s R e = by (departing-is s R)
-  where
-    by : Departing s → departed s .state ≡ s
-    by (takes q T) = let r : nextVisit s .reply ≡ Departure (T .told) = T .reply-is in let z : _≡_ {A = ℕ} 0 1 = cc in absurd (omega arith)
-    by (idles v t l) = idle-state s v
-
--- On the order layer a departure call is never refused.
-pub departure-or-idle : (s : Scheduler) → Rules s → (k : ℕ) → departed s .reply ≡ Refused k → ⊥
-unfolding departed
-departure-or-idle s R k e = by (departing-is s R)
-  where
-    by : Departing s → ⊥
-    by (takes q T) = let r : nextVisit s .reply ≡ Departure (T .told) = T .reply-is in let z : _≡_ {A = ℕ} 0 1 = cc in omega arith
-    by (idles v t l) = let r : nextVisit s .reply ≡ Idle = ap (λ (y : Visit). y .reply) v in let z : _≡_ {A = ℕ} 0 1 = cc in omega arith
+idle-changes-nothing s R e = idle-stays s e
 
 -- A refusal gives back the state as it was, and burst's the list too.
 unless-refused : (n : ℕ) (s t : Scheduler) (k : ℕ) → unlessRefused n s t .reply ≡ AnswerRefused k → unlessRefused n s t .state ≡ s
@@ -180,7 +139,7 @@ idle-single : (h : History) → departed (h .state) .reply ≡ Idle → Rules (h
 idle-single h e R =
     one-single h
     ∙ ap₂ (λ (t : Scheduler) (l : List Sent). record { state = t; accepted = h .accepted; left = l })
-    (idle-changes-nothing (h .state) R e)
+    (idle-stays (h .state) e)
     (ap (λ (r : Reply). h .left ++ sentBy r) e ∙ append-nil (h .left))
 
 idle-from-then : (n : ℕ) (h : History) → departed (h .state) .reply ≡ Idle → Rules (h .state) → chain h (replicate n departing) ≡ h
@@ -219,6 +178,6 @@ burst-as-single-calls (suc n) h R =
     by Idle e ih =
         idle-from-then (suc n) h e R
         ∙ ap₂ (λ (k : Scheduler) (l : List Sent). record { state = k; accepted = h .accepted; left = l })
-        (sym (idle-changes-nothing (h .state) R e))
+        (sym (idle-stays (h .state) e))
         (sym (append-nil (h .left)))
-    by (Refused k) e ih = absurd (departure-or-idle (h .state) R k e)
+    by (Refused k) e ih = absurd (never-refused (h .state) k e)

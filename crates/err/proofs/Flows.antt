@@ -4,7 +4,7 @@ use mathlib.Core.Path.{_≡_, refl, sym, ap, _∙_, subst}
 use mathlib.Core.List.{List, [], _∷_, _++_}
 use native.Mathlib.Omega.{arith}
 use native.Mathlib.Decide.{decLt}
-use lib.ListN.{length, getD, set, length-append, length-set, List·getD-eq-default}
+use lib.ListN.{length, getD, set, drop, length-append, length-set, List·getD-eq-default}
 use lib.Seq.{getD-set-same, getD-set-other, set-getD}
 use Rattle.err.specs.Limits.{flowLimit, weightLimit, sizeLimit, queueLimit, markLimit}
 use Rattle.err.specs.Model.{Flow, Round, Scheduler, flowAt, closedFlow}
@@ -16,6 +16,9 @@ use Rattle.err.proofs.Line.{OnlyAt, everywhere}
 pub at-put : (s : Scheduler) (f : ℕ) (x : Flow) (r : Round) → f < length (s .flows) → flowAt (put s f x r) f ≡ x
 unfolding put
 at-put s f x r h = getD-set-same (s .flows) f x closedFlow h
+
+pub here-now : (s : Scheduler) → Rules s → {f : ℕ} → f < flowLimit → (x : Flow) (r : Round) → flowAt (put s f x r) f ≡ x
+here-now s R {f} reach x r = at-put s f x r (omega (arith, R .all-flows))
 
 pub at-others : (s : Scheduler) (f : ℕ) (x : Flow) (r : Round) → OnlyAt f (flowAt s) (flowAt (put s f x r))
 unfolding put
@@ -36,6 +39,15 @@ waiting-in-reach s f e h =
 -- A number that no flow has stands for a flow that is not active.
 pub beyond-not-active : (s : Scheduler) → length (s .flows) ≡ flowLimit → (g : ℕ) → flowLimit ≤ g → activity (flowAt s g) ≡ 0
 beyond-not-active s e g h = ap activity (List·getD-eq-default (s .flows) closedFlow {n = g} (omega arith))
+
+-- What relates a flow to what is put in its place relates every flow to what it then is.
+pub put-relates : (R : Flow → Flow → Type 0) → ((x : Flow) → R x x) → (flows : List Flow) (g : ℕ) (y : Flow) → R (getD flows g closedFlow) y
+    → (f : ℕ) → R (getD flows f closedFlow) (getD (set flows g y) f closedFlow)
+put-relates R same [] g y r f = same closedFlow
+put-relates R same (x ∷ flows) zero y r zero = r
+put-relates R same (x ∷ flows) zero y r (suc f) = same (getD flows f closedFlow)
+put-relates R same (x ∷ flows) (suc g) y r zero = same x
+put-relates R same (x ∷ flows) (suc g) y r (suc f) = put-relates R same flows g y r f
 
 pub rules-put : (s : Scheduler) (f : ℕ) (x : Flow) (r : Round) → Rules s → f < flowLimit → FlowRules x
     → RoundRules (flowAt (put s f x r)) r (r .turn) → Rules (put s f x r)
@@ -118,12 +130,25 @@ cleared-flow-rules x R =
       no-surplus-if-empty = λ e. refl;
     }
 
+-- A list's first and what follows it, and a list of none.
+pub first-and-rest : (q : List ℕ) → (q ≡ [] → ⊥) → q ≡ getD q 0 0 ∷ drop 1 q
+first-and-rest [] waits = absurd (waits refl)
+first-and-rest (p ∷ q) waits = refl
+
+pub none-is-empty : (q : List ℕ) → length q ≡ 0 → q ≡ []
+none-is-empty [] e = refl
+none-is-empty (p ∷ q) e = absurd (omega arith)
+
 -- Steps 3 and 6. What is left of a queue, with a surplus that fits.
 sizes-left : {p : ℕ} {q : List ℕ} → Sizes (p ∷ q) → Sizes q
 sizes-left (one h l more) = more
 
 pub first-in-range : {p : ℕ} {q : List ℕ} → Sizes (p ∷ q) → (1 ≤ p) × (p ≤ sizeLimit)
 first-in-range (one h l more) = (h, l)
+
+pub first-small : {q : List ℕ} → Sizes q → getD q 0 0 ≤ sizeLimit
+first-small none = omega arith
+first-small (one h l more) = l
 
 pub left-flow-rules : (w σ k : ℕ) (p : ℕ) (q : List ℕ) (σ′ : ℕ) → FlowRules (record { weight = w; surplus = σ; slot = k; queue = p ∷ q })
     → σ′ ≤ markLimit → (q ≡ [] → σ′ ≡ 0) → FlowRules (record { weight = w; surplus = σ′; slot = (k + 1) % queueLimit; queue = q })

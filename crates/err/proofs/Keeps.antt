@@ -21,14 +21,13 @@ use Rattle.err.specs.Choose.{ifEmpty, ifZero}
 use Rattle.err.specs.Chain.{Call, resetting, opening, offering, departing, bursting, after}
 use Rattle.err.specs.declared.Count.{Count}
 use Rattle.err.specs.declared.Count.the-variants.{Refused as CountRefused}
+use Rattle.err.proofs.Choosing.{chosen-has}
+use Rattle.err.proofs.Parts.{flowMadeOf, roundMadeOf}
 use Rattle.err.proofs.Refusals.{MayOpen, may-open, MayOffer, may-offer}
 use Rattle.err.proofs.Counts.{count-head}
 use Rattle.err.proofs.Rounding.{raised-keeps, raised-covers, raised-at-most}
 use Rattle.err.proofs.Line.{OnlyAt, everywhere, same-standing, not-standing, joins-the-line, leaves-the-line, rejoins-the-line, leaves-for-good, round-starts}
 use Rattle.err.proofs.Flows.{at-put, at-others, put-back, waiting-in-reach, rules-put, closed-flow-rules, open-flow-rules, joined-flow-rules, cleared-flow-rules, first-in-range, left-flow-rules}
-
-abbrev flowOf : ℕ → ℕ → ℕ → List ℕ → Flow
-flowOf w σ k q = record { weight = w; surplus = σ; slot = k; queue = q }
 
 -- An open flow with a packet waiting weighs something.
 pub weighs : (x : Flow) → FlowRules x → (x .queue ≡ [] → ⊥) → 1 ≤ x .weight
@@ -41,10 +40,10 @@ weighs x R waits = go (x .weight) refl
 -- Steps 3 to 6: serving the flow f of an open turn keeps the rules. `flow` has f as it is served, `flow′` as serving leaves it.
 module _ {flow flow′ : ℕ → Flow} (r : Round) (f a n w σ k : ℕ) (only : OnlyAt f flow flow′)
     (L : LineRules flow (f ∷ []) (r .line) (r .mark) (r .running) (r .visits - 1)) where
-  pub served-keeps : (q : List ℕ) → FlowRules (flowOf w σ k q) → flow f ≡ flowOf w σ k q → flow′ f ≡ served r (flowOf w σ k q) f a n .flow
-      → TurnRules (flowOf w σ k q) (r .visits) (r .mark) a n → (q ≡ [] → ⊥)
-      → FlowRules (served r (flowOf w σ k q) f a n .flow)
-      × RoundRules flow′ (served r (flowOf w σ k q) f a n .round) (served r (flowOf w σ k q) f a n .round .turn)
+  pub served-keeps : (q : List ℕ) → FlowRules (flowMadeOf w σ k q) → flow f ≡ flowMadeOf w σ k q → flow′ f ≡ served r (flowMadeOf w σ k q) f a n .flow
+      → TurnRules (flowMadeOf w σ k q) (r .visits) (r .mark) a n → (q ≡ [] → ⊥)
+      → FlowRules (served r (flowMadeOf w σ k q) f a n .flow)
+      × RoundRules flow′ (served r (flowMadeOf w σ k q) f a n .round) (served r (flowMadeOf w σ k q) f a n .round .turn)
   unfolding served settled firstLeft turnClosed turnKept excessKept RoundRules
   served-keeps [] R here there T waits = absurd (waits refl)
   served-keeps (p ∷ []) R here there T waits =
@@ -52,7 +51,7 @@ module _ {flow flow′ : ℕ → Flow} (r : Round) (f a n w σ k : ℕ) (only : 
   served-keeps (p ∷ (p′ ∷ q)) R here there T waits = go (leb a (n + p)) (Departure (record { flow = f; size = p; mark = r .mark; allowance = a })) refl there
     where
       x : Flow
-      x = flowOf w σ k (p ∷ (p′ ∷ q))
+      x = flowMadeOf w σ k (p ∷ (p′ ∷ q))
 
       weight : 1 ≤ w
       weight = weighs x R waits
@@ -118,12 +117,6 @@ new-keeps =
           };
     }
 
--- Where the number of a refusal is 0 the call has its effect, and otherwise none.
-pub unless-keeps : (n : ℕ) (s t : Scheduler) → Rules s → (n ≡ 0 → Rules t) → Rules (unlessRefused n s t .state)
-unfolding unlessRefused
-unless-keeps zero s t R h = h refl
-unless-keeps (suc n) s t R h = R
-
 -- The rules of a turn speak of its flow's weight and surplus alone.
 turn-rules-same : {x y : Flow} {visits mark a n : ℕ} → y .weight ≡ x .weight → y .surplus ≡ x .surplus → TurnRules x visits mark a n
     → TurnRules y visits mark a n
@@ -150,8 +143,8 @@ module _ {flow flow′ : ℕ → Flow} {f : ℕ} (only : OnlyAt f flow flow′) 
       (not-standing only was is (R .0), rw (other-turn (R .0) was) (R .1), R .2)
 
   -- Step 1.
-  pub offering-keeps : (turn : Serving) (w σ k : ℕ) (q : List ℕ) (size : ℕ) → flow f ≡ flowOf w σ k q → flow′ f ≡ packetJoined (flowOf w σ k q) size
-      → RoundRules flow r turn → RoundRules flow′ (flowLined r f (flowOf w σ k q)) turn
+  pub offering-keeps : (turn : Serving) (w σ k : ℕ) (q : List ℕ) (size : ℕ) → flow f ≡ flowMadeOf w σ k q → flow′ f ≡ packetJoined (flowMadeOf w σ k q) size
+      → RoundRules flow r turn → RoundRules flow′ (flowLined r f (flowMadeOf w σ k q)) turn
   unfolding RoundRules packetJoined flowLined
   offering-keeps NoTurn w σ k [] size here there R = joins-the-line only (ap activity here) (ap (λ (y : Flow). y .surplus) there) (ap activity there) R
   offering-keeps NoTurn w σ k (p ∷ q) size here there R =
@@ -177,10 +170,9 @@ module _ {flow flow′ : ℕ → Flow} {f : ℕ} (only : OnlyAt f flow flow′) 
       )
 
 pub opened-keeps : (s : Scheduler) (f weight : ℕ) → Rules s → Rules (opened s f weight .state)
-unfolding opened
+unfolding opened unlessRefused
 opened-keeps s f weight R =
-    unless-keeps (openRefusal f weight (flowAt s f)) s (put s f (openFlow weight) (s .round)) R
-    (λ e. effect (may-open f weight (flowAt s f) e))
+    chosen-has Rules (openRefusal f weight (flowAt s f)) (put s f (openFlow weight) (s .round)) s (λ e. effect (may-open f weight (flowAt s f) e)) R
   where
     effect : MayOpen f weight (flowAt s f) → Rules (put s f (openFlow weight) (s .round))
     effect may =
@@ -191,10 +183,10 @@ opened-keeps s f weight R =
         (R .round-rules))
 
 pub offered-keeps : (s : Scheduler) (f size : ℕ) → Rules s → Rules (offered s f size .state)
-unfolding offered flowLined
+unfolding offered unlessRefused flowLined
 offered-keeps s f size R =
-    unless-keeps (offerRefusal f size (flowAt s f)) s (put s f (packetJoined (flowAt s f) size) (flowLined (s .round) f (flowAt s f))) R
-    (λ e. effect (may-offer f size (flowAt s f) e))
+    chosen-has Rules (offerRefusal f size (flowAt s f)) (put s f (packetJoined (flowAt s f) size) (flowLined (s .round) f (flowAt s f))) s
+    (λ e. effect (may-offer f size (flowAt s f) e)) R
   where
     x : Flow
     x = flowAt s f
@@ -210,22 +202,19 @@ offered-keeps s f size R =
         (at-put s f (packetJoined x size) r (omega (arith, R .all-flows, may .flow-in-range)))
         (R .round-rules))
 
-abbrev roundOf : List ℕ → ℕ → ℕ → ℕ → Serving → Round
-roundOf line visits mark running turn = record { line = line; visits = visits; mark = mark; running = running; turn = turn }
-
 -- A flow that stands is active: it has a packet waiting.
 pub standing-waits : (x : Flow) → 1 ≤ activity x → x .queue ≡ [] → ⊥
 standing-waits x h e = absurd (omega (arith, ap (λ (q : List ℕ). ifEmpty {A = ℕ} q 0 1) e))
 
 module _ (s : Scheduler) (R : Rules s) where
   -- Steps 3 to 6 in an open turn of f, whose flow is as in the state but for its surplus.
-  in-turn-keeps : (r : Round) (f a n w σ k : ℕ) (flow : ℕ → Flow) → OnlyAt f (flowAt s) flow → flow f ≡ flowOf w σ k (flowAt s f .queue)
-      → FlowRules (flowOf w σ k (flowAt s f .queue)) → LineRules flow (f ∷ []) (r .line) (r .mark) (r .running) (r .visits - 1)
-      → TurnRules (flowOf w σ k (flowAt s f .queue)) (r .visits) (r .mark) a n
+  in-turn-keeps : (r : Round) (f a n w σ k : ℕ) (flow : ℕ → Flow) → OnlyAt f (flowAt s) flow → flow f ≡ flowMadeOf w σ k (flowAt s f .queue)
+      → FlowRules (flowMadeOf w σ k (flowAt s f .queue)) → LineRules flow (f ∷ []) (r .line) (r .mark) (r .running) (r .visits - 1)
+      → TurnRules (flowMadeOf w σ k (flowAt s f .queue)) (r .visits) (r .mark) a n
       → Rules
       (put s f
-      (served r (flowOf w σ k (flowAt s f .queue)) f a n .flow)
-      (served r (flowOf w σ k (flowAt s f .queue)) f a n .round))
+      (served r (flowMadeOf w σ k (flowAt s f .queue)) f a n .flow)
+      (served r (flowMadeOf w σ k (flowAt s f .queue)) f a n .round))
   in-turn-keeps r f a n w σ k flow only here X L T =
       rules-put s f x′ r′ R inside (both .0) (both .1)
     where
@@ -233,13 +222,13 @@ module _ (s : Scheduler) (R : Rules s) where
       q = flowAt s f .queue
 
       x′ : Flow
-      x′ = served r (flowOf w σ k q) f a n .flow
+      x′ = served r (flowMadeOf w σ k q) f a n .flow
 
       r′ : Round
-      r′ = served r (flowOf w σ k q) f a n .round
+      r′ = served r (flowMadeOf w σ k q) f a n .round
 
       waits : q ≡ [] → ⊥
-      waits = standing-waits (flowOf w σ k q) (omega (arith, L .stands-once f, count-head f (r .line), ap activity here))
+      waits = standing-waits (flowMadeOf w σ k q) (omega (arith, L .stands-once f, count-head f (r .line), ap activity here))
 
       inside : f < flowLimit
       inside = waiting-in-reach s f (R .all-flows) waits
@@ -253,8 +242,8 @@ module _ (s : Scheduler) (R : Rules s) where
   begun-keeps : (f : ℕ) (line : List ℕ) (visits mark running : ℕ) → LineRules (flowAt s) [] (f ∷ line) mark running (suc visits)
       → Rules
       (put s f
-      (served (turnOpened (roundOf (f ∷ line) (suc visits) mark running NoTurn) f (allowance (flowAt s f .weight) mark (flowAt s f .surplus))) (surplusCleared (flowAt s f)) f (allowance (flowAt s f .weight) mark (flowAt s f .surplus)) 0 .flow)
-      (served (turnOpened (roundOf (f ∷ line) (suc visits) mark running NoTurn) f (allowance (flowAt s f .weight) mark (flowAt s f .surplus))) (surplusCleared (flowAt s f)) f (allowance (flowAt s f .weight) mark (flowAt s f .surplus)) 0 .round))
+      (served (turnOpened (roundMadeOf (f ∷ line) (suc visits) mark running NoTurn) f (allowance (flowAt s f .weight) mark (flowAt s f .surplus))) (surplusCleared (flowAt s f)) f (allowance (flowAt s f .weight) mark (flowAt s f .surplus)) 0 .flow)
+      (served (turnOpened (roundMadeOf (f ∷ line) (suc visits) mark running NoTurn) f (allowance (flowAt s f .weight) mark (flowAt s f .surplus))) (surplusCleared (flowAt s f)) f (allowance (flowAt s f .weight) mark (flowAt s f .surplus)) 0 .round))
   unfolding turnOpened surplusCleared
   begun-keeps f line visits mark running L =
       in-turn-keeps r f (allowance (x .weight) mark (x .surplus)) 0 (x .weight) 0 (x .slot) (flowAt s′) (at-others s f (surplusCleared x) r) here
@@ -272,7 +261,7 @@ module _ (s : Scheduler) (R : Rules s) where
       x = flowAt s f
 
       r : Round
-      r = turnOpened (roundOf (f ∷ line) (suc visits) mark running NoTurn) f (allowance (x .weight) mark (x .surplus))
+      r = turnOpened (roundMadeOf (f ∷ line) (suc visits) mark running NoTurn) f (allowance (x .weight) mark (x .surplus))
 
       s′ : Scheduler
       s′ = put s f (surplusCleared x) r
@@ -294,21 +283,21 @@ module _ (s : Scheduler) (R : Rules s) where
 
 -- The departure call, on a state that is taken apart.
 departed-keeps-parts : (flows : List Flow) (line : List ℕ) (visits mark running : ℕ) (turn : Serving)
-    → Rules (record { flows = flows; round = roundOf line visits mark running turn })
-    → Rules (departed (record { flows = flows; round = roundOf line visits mark running turn }) .state)
+    → Rules (record { flows = flows; round = roundMadeOf line visits mark running turn })
+    → Rules (departed (record { flows = flows; round = roundMadeOf line visits mark running turn }) .state)
 unfolding departed visit visitBy roundStarted RoundRules
 departed-keeps-parts flows line visits mark running (Turn f a n) R =
-    let s : Scheduler = record { flows = flows; round = roundOf line visits mark running (Turn f a n) } in
+    let s : Scheduler = record { flows = flows; round = roundMadeOf line visits mark running (Turn f a n) } in
     in-turn-keeps s R (s .round) f a n (flowAt s f .weight) (flowAt s f .surplus) (flowAt s f .slot) (flowAt s) (λ g d. refl) refl (R .flow-rules f)
     (R .round-rules .0) (R .round-rules .1)
 departed-keeps-parts flows [] visits mark running NoTurn R =
-    let s : Scheduler = record { flows = flows; round = roundOf [] visits mark running NoTurn } in
+    let s : Scheduler = record { flows = flows; round = roundMadeOf [] visits mark running NoTurn } in
     subst Rules (sym (put-back s 0)) R
 departed-keeps-parts flows (f ∷ line) zero mark running NoTurn R =
-    begun-keeps (record { flows = flows; round = roundOf (f ∷ line) 0 mark running NoTurn }) R f line (length line) running 0
+    begun-keeps (record { flows = flows; round = roundMadeOf (f ∷ line) 0 mark running NoTurn }) R f line (length line) running 0
     (round-starts (R .round-rules))
 departed-keeps-parts flows (f ∷ line) (suc visits) mark running NoTurn R =
-    begun-keeps (record { flows = flows; round = roundOf (f ∷ line) (suc visits) mark running NoTurn }) R f line visits mark running
+    begun-keeps (record { flows = flows; round = roundMadeOf (f ∷ line) (suc visits) mark running NoTurn }) R f line visits mark running
     (R .round-rules)
 
 pub departed-keeps : (s : Scheduler) → Rules s → Rules (departed s .state)

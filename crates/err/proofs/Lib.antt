@@ -1,4 +1,6 @@
 pub mod Bench
+pub mod Choosing
+pub mod Parts
 pub mod Counts
 pub mod Rounding
 pub mod Line
@@ -6,7 +8,8 @@ pub mod Flows
 pub mod Refusals
 pub mod Keeps
 pub mod Standing
+pub mod Departing
 pub mod Queues
 pub mod Told
-pub mod Departing
+pub mod Chains
 pub mod Demand2

@@ -12,19 +12,25 @@ use Rattle.err.specs.Choose.{ifEmpty}
 use Rattle.err.specs.Model.{Flow, Round}
 use Rattle.err.specs.Rules.{count, activity, LineRules}
 use Rattle.err.proofs.Counts.{count-append, count-self, count-other, count-head, count-behind, count-parts, few-stand, fewer-stand}
+use Rattle.err.proofs.Choosing.{waiting-by-count}
 
 -- The flows before and after differ at f alone.
 abbrev pub OnlyAt : ℕ → (ℕ → Flow) → (ℕ → Flow) → Type 0
 OnlyAt f flow flow′ = (g : ℕ) → (g ≡ f → ⊥) → flow′ g ≡ flow g
 
+-- A statement on f, by whether f is g.
+pub same-or-other : (P : ℕ → Type 0) (g f : ℕ) → P g → ((f ≡ g → ⊥) → P f) → P f
+same-or-other P g f here there = elim (ℕ-discrete f g) [ yes q ↦ subst P (sym q) here | no q ↦ there q ]
+
 -- What holds of f after, and of every other flow before, holds of every flow after.
 pub everywhere : (P : ℕ → Flow → Type 0) (f : ℕ) (flow flow′ : ℕ → Flow) → OnlyAt f flow flow′ → P f (flow′ f)
     → ((g : ℕ) → (g ≡ f → ⊥) → P g (flow g)) → (g : ℕ) → P g (flow′ g)
 everywhere P f flow flow′ only here there g =
-    elim (ℕ-discrete g f) [
-      | yes q ↦ subst (λ (k : ℕ). P k (flow′ k)) (sym q) here
-      | no q ↦ subst (λ (x : Flow). P g x) (sym (only g q)) (there g q)
-    ]
+    same-or-other (λ k. P k (flow′ k)) f g here (λ q. subst (λ (x : Flow). P g x) (sym (only g q)) (there g q))
+
+-- A flow with a packet waiting is active.
+pub waiting-is-active : (x : Flow) → 1 ≤ length (x .queue) → activity x ≡ 1
+waiting-is-active x w = waiting-by-count (x .queue) 0 1 (λ e. omega arith)
 
 pub activity-at-most-one : (x : Flow) → activity x ≤ 1
 activity-at-most-one x = go (x .queue)

@@ -24,7 +24,8 @@ use Rattle.err.specs.declared.Serving.the-variants.{NoTurn, Turn}
 use Rattle.err.proofs.Refusals.{MayOpen, may-open, MayOffer, may-offer}
 use Rattle.err.proofs.Flows.{at-put, at-others, put-back}
 use Rattle.err.proofs.Keeps.{departed-keeps}
-use Rattle.err.proofs.Standing.{TurnFacts, HeadFacts, turn-facts, head-facts, whose-in-reach}
+use Rattle.err.proofs.Departing.{Leaves, departed-leaves, SendsOrStays, sends, stays, sends-or-stays}
+use Rattle.err.proofs.Line.{same-or-other}
 
 pub sizes-append : (f : ℕ) (a b : List Packet) → sizesOf f (a ++ b) ≡ sizesOf f a ++ sizesOf f b
 unfolding sizesOf
@@ -40,119 +41,21 @@ pub anothers : (g f size : ℕ) → (g ≡ f → ⊥) → sizesOf g (record { fl
 unfolding sizesOf
 anothers g f size d = ap (λ (b : Bool). cond b (size ∷ []) [] ++ []) (ne-eqb f g (λ e. d (sym e)))
 
--- What serving leaves of the queue, and that it replies with the first packet.
-settled-queue : (b : Bool) (r : Round) (x : Flow) (f a n : ℕ) (d : Reply) → settled b r x f a n d .flow .queue ≡ x .queue
-unfolding settled excessKept
-settled-queue true r x f a n d = refl
-settled-queue false r x f a n d = refl
-
-pub settled-reply : (b : Bool) (r : Round) (x : Flow) (f a n : ℕ) (d : Reply) → settled b r x f a n d .reply ≡ d
-unfolding settled
-settled-reply true r x f a n d = refl
-settled-reply false r x f a n d = refl
-
--- A visit that takes the first packet p of flow f and leaves q of its queue.
-pub record Takes (v : Visit) (f p : ℕ) (q : List ℕ) : Type 0 where
-  pub told : Sent
-  pub reply-is : v .reply ≡ Departure told
-  pub flow-is : told .flow ≡ f
-  pub size-is : told .size ≡ p
-  pub rest-is : v .flow .queue ≡ q
-
-served-takes : (r : Round) (x : Flow) (f a n p : ℕ) (q : List ℕ) → x .queue ≡ p ∷ q → Takes (served r x f a n) f p q
-unfolding served firstLeft
-served-takes r x f a n p q e =
-    record {
-      told = record { flow = f; size = getD (x .queue) 0 0; mark = r .mark; allowance = a };
-      reply-is = settled-reply (turnEnds a (n + getD (x .queue) 0 0) (drop 1 (x .queue))) r (firstLeft x) f a (n + getD (x .queue) 0 0) _;
-      flow-is = refl;
-      size-is = ap (λ (l : List ℕ). getD l 0 0) e;
-      rest-is = settled-queue (turnEnds a (n + getD (x .queue) 0 0) (drop 1 (x .queue))) r (firstLeft x) f a (n + getD (x .queue) 0 0) _ ∙ ap (drop 1) e;
-    }
-
--- Either a departure call takes the first packet of the flow whose turn it is, or nothing waits at all and it is idle.
-pub data Departing (s : Scheduler) : Type 0 where
-  takes : {p : ℕ} {q : List ℕ} → flowAt s (whose (s .round)) .queue ≡ p ∷ q → Takes (nextVisit s) (whose (s .round)) p q → Departing s
-  idles : nextVisit s ≡ record { round = s .round; flow = flowAt s (whose (s .round)); reply = Idle } → s .round .turn ≡ NoTurn → s .round .line ≡ [] → Departing s
-
-a-first : (q : List ℕ) → (q ≡ [] → ⊥) → q ≡ getD q 0 0 ∷ drop 1 q
-a-first [] d = absurd (d refl)
-a-first (p ∷ q) d = refl
-
--- The visit, once it is known to serve the flow whose turn it is.
-taking : (s : Scheduler) (r : Round) (x : Flow) (f a n : ℕ) → x .queue ≡ flowAt s (whose (s .round)) .queue → (flowAt s (whose (s .round)) .queue ≡ [] → ⊥)
-    → nextVisit s ≡ served r x f a n → whose (s .round) ≡ f → Departing s
-taking s r x f a n same waits is who =
-    let q : List ℕ = flowAt s (whose (s .round)) .queue in
-    let first : q ≡ getD q 0 0 ∷ drop 1 q = a-first q waits in
-    takes first
-    (subst (λ (v : Visit). Takes v (whose (s .round)) (getD q 0 0) (drop 1 q)) (sym is)
-    (subst (λ (g : ℕ). Takes (served r x f a n) g (getD q 0 0) (drop 1 q)) (sym who)
-    (served-takes r x f a n (getD q 0 0) (drop 1 q) (same ∙ first))))
-
-pub departing-is : (s : Scheduler) → Rules s → Departing s
-unfolding visit visitBy surplusCleared
-departing-is s R = by (s .round .turn) refl (s .round .line) refl
-  where
-    x : Flow
-    x = flowAt s (whose (s .round))
-
-    visit-by : (turn : Serving) (l : List ℕ) → s .round .turn ≡ turn → s .round .line ≡ l → nextVisit s ≡ visitBy turn l (s .round) x
-    visit-by turn l t e = ap₂ (λ (u : Serving) (k : List ℕ). visitBy u k (s .round) x) t e
-
-    by : (turn : Serving) → s .round .turn ≡ turn → (l : List ℕ) → s .round .line ≡ l → Departing s
-    by (Turn f a n) t l e =
-        let who : whose (s .round) ≡ f = ap (λ (u : Serving). whoseTurn u (s .round .line)) t in
-        taking s (s .round) x f a n refl
-        (subst (λ (g : ℕ). flowAt s g .queue ≡ [] → ⊥) (sym who) (turn-facts s R f a n t .waits))
-        (visit-by (Turn f a n) l t e) who
-    by NoTurn t [] e = idles (visit-by NoTurn [] t e) t e
-    by NoTurn t (f ∷ l) e =
-        let who : whose (s .round) ≡ f = ap₂ (λ (u : Serving) (k : List ℕ). whoseTurn u k) t e in
-        let head : whose (s .round) ≡ getD (s .round .line) 0 0 = ap (λ (u : Serving). whoseTurn u (s .round .line)) t in
-        taking s (turnOpened (roundStarted (s .round)) f (headAllowance (s .round) x)) (surplusCleared x) f (headAllowance (s .round) x) 0 refl
-        (subst (λ (g : ℕ). flowAt s g .queue ≡ [] → ⊥) (sym head) (head-facts s R t (omega (arith, ap length e)) .waits))
-        (visit-by NoTurn (f ∷ l) t e) who
-
--- Idle gives back the state as it was.
-pub idle-state : (s : Scheduler) → nextVisit s ≡ record { round = s .round; flow = flowAt s (whose (s .round)); reply = Idle } → departed s .state ≡ s
-unfolding departed
-idle-state s v =
-    ap₂ (λ (y : Flow) (r : Round). put s (whose (s .round)) y r) (ap (λ (k : Visit). k .flow) v) (ap (λ (k : Visit). k .round) v)
-    ∙ put-back s (whose (s .round))
-
--- The sizes that a reply tells of.
-sizes-told : (reply : Reply) (d : Sent) (f p g : ℕ) → reply ≡ Departure d → d .flow ≡ f → d .size ≡ p
-    → sizesOf g (packetsOf (sentBy reply)) ≡ sizesOf g (record { flow = f; size = p } ∷ [])
-sizes-told reply d f p g e a b =
-    ap (λ (r : Reply). sizesOf g (packetsOf (sentBy r))) e
-    ∙ ap₂ (λ (k n : ℕ). sizesOf g (record { flow = k; size = n } ∷ [])) a b
-
 -- What waited in a flow is what a departure call takes of it, if anything, followed by what waits after.
 pub departed-queue : (s : Scheduler) → Rules s → (g : ℕ)
     → flowAt s g .queue ≡ sizesOf g (packetsOf (sentBy (departed s .reply))) ++ flowAt (departed s .state) g .queue
-unfolding departed sizesOf
-departed-queue s R g = by (departing-is s R)
+unfolding sizesOf
+departed-queue s R g = by (sends-or-stays s)
   where
-    f : ℕ
-    f = whose (s .round)
-
-    after-others : (h : ℕ) → (h ≡ f → ⊥) → flowAt (departed s .state) h .queue ≡ flowAt s h .queue
-    after-others h d = ap (λ (y : Flow). y .queue) (at-others s f (nextVisit s .flow) (nextVisit s .round) h d)
-
-    after-own : flowAt (departed s .state) f .queue ≡ nextVisit s .flow .queue
-    after-own = ap (λ (y : Flow). y .queue) (at-put s f (nextVisit s .flow) (nextVisit s .round) (omega (arith, R .all-flows, whose-in-reach s R)))
-
-    by : Departing s → flowAt s g .queue ≡ sizesOf g (packetsOf (sentBy (nextVisit s .reply))) ++ flowAt (departed s .state) g .queue
-    by (takes {p} {q} e T) =
-        elim (ℕ-discrete g f) [
-          | yes i ↦ subst (λ (h : ℕ). flowAt s h .queue ≡ sizesOf h (packetsOf (sentBy (nextVisit s .reply))) ++ flowAt (departed s .state) h .queue) (sym i)
-              (e ∙ sym (ap₂ (λ (a b : List ℕ). a ++ b) (sizes-told (nextVisit s .reply) (T .told) f p f (T .reply-is) (T .flow-is) (T .size-is) ∙ its-own f p) (after-own ∙ T .rest-is)))
-          | no d ↦
-              sym (ap₂ (λ (a b : List ℕ). a ++ b) (sizes-told (nextVisit s .reply) (T .told) f p g (T .reply-is) (T .flow-is) (T .size-is) ∙ anothers g f p d) (after-others g d))
-        ]
-    by (idles v t l) =
-        sym (ap₂ (λ (a b : List ℕ). a ++ b) (ap (λ (k : Visit). sizesOf g (packetsOf (sentBy (k .reply)))) v) (ap (λ (k : Scheduler). flowAt k g .queue) (idle-state s v)))
+    by : SendsOrStays s → flowAt s g .queue ≡ sizesOf g (packetsOf (sentBy (departed s .reply))) ++ flowAt (departed s .state) g .queue
+    by (sends d e) =
+        let L : Leaves s d (departed s .state) = departed-leaves s R d e in
+        rw e
+        (same-or-other (λ h. flowAt s h .queue ≡ sizesOf h (packetsOf (d ∷ [])) ++ flowAt (departed s .state) h .queue) (d .flow) g
+        (L .first-in-queue ∙ ap (λ (l : List ℕ). l ++ flowAt (departed s .state) (d .flow) .queue) (sym (its-own (d .flow) (d .size))))
+        (λ n. sym (ap₂ (λ (a b : List ℕ). a ++ b) (anothers g (d .flow) (d .size) n) (ap (λ (y : Flow). y .queue) (L .others-stay g n)))))
+    by (stays e same t l) =
+        sym (ap₂ (λ (r : Reply) (k : Scheduler). sizesOf g (packetsOf (sentBy r)) ++ flowAt k g .queue) e same)
 
 -- The same over any number of departures.
 pub departures-queue : (n : ℕ) (s : Scheduler) → Rules s → (g : ℕ)
@@ -183,12 +86,10 @@ opened-queue s f weight R g = by (openRefusal f weight (flowAt s f)) refl
     by : (n : ℕ) → openRefusal f weight (flowAt s f) ≡ n → flowAt (ifZero n (put s f (openFlow weight) (s .round)) s) g .queue ≡ flowAt s g .queue
     by zero e =
         let may : MayOpen f weight (flowAt s f) = may-open f weight (flowAt s f) e in
-        elim (ℕ-discrete g f) [
-          | yes i ↦ subst (λ (h : ℕ). flowAt (put s f (openFlow weight) (s .round)) h .queue ≡ flowAt s h .queue) (sym i)
-              (ap (λ (y : Flow). y .queue) (at-put s f (openFlow weight) (s .round) (omega (arith, R .all-flows, may .flow-in-range)))
-              ∙ sym (R .flow-rules f .open-if-waiting (may .not-open)))
-          | no d ↦ ap (λ (y : Flow). y .queue) (at-others s f (openFlow weight) (s .round) g d)
-        ]
+        same-or-other (λ h. flowAt (put s f (openFlow weight) (s .round)) h .queue ≡ flowAt s h .queue) f g
+        (ap (λ (y : Flow). y .queue) (at-put s f (openFlow weight) (s .round) (omega (arith, R .all-flows, may .flow-in-range)))
+        ∙ sym (R .flow-rules f .open-if-waiting (may .not-open)))
+        (λ d. ap (λ (y : Flow). y .queue) (at-others s f (openFlow weight) (s .round) g d))
     by (suc n) e = refl
 
 -- An accepted packet joins the end of its flow's queue.
@@ -209,13 +110,11 @@ offered-queue s f size R g = by (offerRefusal f size (flowAt s f)) refl
     by : (n : ℕ) → offerRefusal f size (flowAt s f) ≡ n
         → flowAt (ifZero n (put s f x r) s) g .queue ≡ flowAt s g .queue ++ sizesOf g (ifZero n (record { flow = f; size = size } ∷ []) [])
     by zero e =
-        elim (ℕ-discrete g f) [
-          | yes i ↦ subst (λ (h : ℕ). flowAt (put s f x r) h .queue ≡ flowAt s h .queue ++ sizesOf h (record { flow = f; size = size } ∷ [])) (sym i)
-              (ap (λ (y : Flow). y .queue) (at-put s f x r (omega (arith, R .all-flows, may-offer f size (flowAt s f) e .flow-in-range)))
-              ∙ ap (λ (l : List ℕ). flowAt s f .queue ++ l) (sym (its-own f size)))
-          | no d ↦
-              ap (λ (y : Flow). y .queue) (at-others s f x r g d)
-              ∙ sym (append-nil (flowAt s g .queue))
-              ∙ ap (λ (l : List ℕ). flowAt s g .queue ++ l) (sym (anothers g f size d))
-        ]
+        same-or-other (λ h. flowAt (put s f x r) h .queue ≡ flowAt s h .queue ++ sizesOf h (record { flow = f; size = size } ∷ [])) f g
+        (ap (λ (y : Flow). y .queue) (at-put s f x r (omega (arith, R .all-flows, may-offer f size (flowAt s f) e .flow-in-range)))
+        ∙ ap (λ (l : List ℕ). flowAt s f .queue ++ l) (sym (its-own f size)))
+        (λ d.
+        ap (λ (y : Flow). y .queue) (at-others s f x r g d)
+        ∙ sym (append-nil (flowAt s g .queue))
+        ∙ ap (λ (l : List ℕ). flowAt s g .queue ++ l) (sym (anothers g f size d)))
     by (suc n) e = sym (ap (λ (l : List ℕ). flowAt s g .queue ++ l) nothing ∙ append-nil (flowAt s g .queue))

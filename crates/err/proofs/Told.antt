@@ -17,7 +17,11 @@ use Rattle.err.specs.declared.Sent.{Sent}
 use Rattle.err.specs.declared.Serving.{Serving}
 use Rattle.err.specs.declared.Serving.the-variants.{NoTurn, Turn}
 use Rattle.err.proofs.Standing.{InRange, TurnFacts, HeadFacts, in-range, turn-facts, head-facts, turn-allowed-at-least-weight}
-use Rattle.err.proofs.Queues.{settled-reply}
+use Rattle.err.proofs.Choosing.{chosen-has}
+use Rattle.err.proofs.Parts.{schedulerMadeOf}
+use Rattle.err.proofs.Flows.{first-in-range}
+use Rattle.err.proofs.Keeps.{weighs}
+use Rattle.err.proofs.Departing.{Leaves, departed-leaves, served-tells}
 
 pub record ToldInRange (s : Scheduler) (d : Sent) : Type 0 where
   pub flow-in-range : d .flow < flowLimit
@@ -28,74 +32,58 @@ pub record ToldInRange (s : Scheduler) (d : Sent) : Type 0 where
   pub allowance-positive : 1 ≤ d .allowance
   pub allowance-in-range : d .allowance ≤ allowanceLimit
 
-first-in-sizes : (q : List ℕ) → Sizes q → (q ≡ [] → ⊥) → (1 ≤ getD q 0 0) × (getD q 0 0 ≤ sizeLimit)
-first-in-sizes q none d = absurd (d refl)
-first-in-sizes q (one h k more) d = (h, k)
+-- The mark and the allowance that a departure tells, on a state that is taken apart.
+record MarkAndAllowance (s : Scheduler) (d : Sent) : Type 0 where
+  mark-told : d .mark ≤ markLimit
+  least-told : flowAt s (d .flow) .weight ≤ d .allowance
+  most-told : d .allowance ≤ allowanceLimit
 
--- What serving tells.
-serving-tells : (r : Round) (x : Flow) (f a n : ℕ)
-    → served r x f a n .reply ≡ Departure (record { flow = f; size = getD (x .queue) 0 0; mark = r .mark; allowance = a })
-unfolding served
-serving-tells r x f a n = settled-reply (turnEnds a (n + getD (x .queue) 0 0) (drop 1 (x .queue))) r (firstLeft x) f a (n + getD (x .queue) 0 0) _
+mark-and-allowance : (flows : List Flow) (line : List ℕ) (visits mark running : ℕ) (turn : Serving) → Rules (schedulerMadeOf flows line visits mark running turn)
+    → (d : Sent) → departed (schedulerMadeOf flows line visits mark running turn) .reply ≡ Departure d
+    → MarkAndAllowance (schedulerMadeOf flows line visits mark running turn) d
+unfolding departed visit visitBy turnOpened roundStarted
+mark-and-allowance flows line visits mark running (Turn f a n) R d e =
+    let s : Scheduler = schedulerMadeOf flows line visits mark running (Turn f a n) in
+    subst (MarkAndAllowance s) (served-tells (s .round) (flowAt s f) f a n d e)
+    (record {
+      mark-told = in-range s R .mark-in-range;
+      least-told = turn-allowed-at-least-weight s R f a n refl;
+      most-told = turn-facts s R f a n refl .allowed-in-range;
+    })
+mark-and-allowance flows [] visits mark running NoTurn R d e = let z : _≡_ {A = ℕ} 0 1 = cc in absurd (omega arith)
+mark-and-allowance flows (f ∷ line) visits mark running NoTurn R d e =
+    let s : Scheduler = schedulerMadeOf flows (f ∷ line) visits mark running NoTurn in
+    let H : HeadFacts s f = head-facts s R refl (omega arith) in
+    let small : ifZero visits running mark ≤ markLimit =
+    chosen-has (λ (m : ℕ). m ≤ markLimit) visits running mark (λ z. in-range s R .running-in-range) (in-range s R .mark-in-range) in
+    let a : ℕ = headAllowance (s .round) (flowAt s f) in
+    subst (MarkAndAllowance s) (served-tells (turnOpened (roundStarted (s .round)) f a) (surplusCleared (flowAt s f)) f a 0 d e)
+    (record {
+      mark-told = small;
+      least-told = omega (arith, H .owed);
+      most-told = omega (arith, mul-le-mul (R .flow-rules f .weight-in-range) small, R .flow-rules f .weight-in-range);
+    })
 
-mark-started : (v a b : ℕ) → a ≤ markLimit → b ≤ markLimit → ifZero v a b ≤ markLimit
-mark-started zero a b h k = h
-mark-started (suc v) a b h k = k
+pub told-in-range : (s : Scheduler) → Rules s → (d : Sent) → departed s .reply ≡ Departure d → ToldInRange s d
+told-in-range s R d e =
+    record {
+      flow-in-range = L .in-reach;
+      size-positive = size .0;
+      size-in-range = size .1;
+      mark-in-range = told .mark-told;
+      allowance-at-least-weight = told .least-told;
+      allowance-positive = omega (arith, told .least-told, weighs (flowAt s (d .flow)) (R .flow-rules (d .flow)) waits);
+      allowance-in-range = told .most-told;
+    }
+  where
+    L : Leaves s d (departed s .state)
+    L = departed-leaves s R d e
 
-module _ (s : Scheduler) (R : Rules s) where
-  -- The same of a departure that tells these numbers.
-  tells : (d : Sent) (x : Flow) (f mark a : ℕ) → departed s .reply ≡ Departure d
-      → departed s .reply ≡ Departure (record { flow = f; size = getD (x .queue) 0 0; mark = mark; allowance = a }) → x .queue ≡ flowAt s f .queue
-      → f < flowLimit → (flowAt s f .queue ≡ [] → ⊥) → mark ≤ markLimit → flowAt s f .weight ≤ a → 1 ≤ flowAt s f .weight → a ≤ allowanceLimit → ToldInRange s d
-  tells d x f mark a e i same reach waits small least weighs most =
-      let told : d ≡ record { flow = f; size = getD (x .queue) 0 0; mark = mark; allowance = a } = cc in
-      subst (ToldInRange s) (sym told)
-      (record {
-        flow-in-range = reach;
-        size-positive = omega (arith, first .0, ap (λ (q : List ℕ). getD q 0 0) same);
-        size-in-range = omega (arith, first .1, ap (λ (q : List ℕ). getD q 0 0) same);
-        mark-in-range = small;
-        allowance-at-least-weight = least;
-        allowance-positive = omega arith;
-        allowance-in-range = most;
-      })
-    where
-      first : (1 ≤ getD (flowAt s f .queue) 0 0) × (getD (flowAt s f .queue) 0 0 ≤ sizeLimit)
-      first = first-in-sizes (flowAt s f .queue) (R .flow-rules f .sizes-in-range) waits
+    told : MarkAndAllowance s d
+    told = mark-and-allowance (s .flows) (s .round .line) (s .round .visits) (s .round .mark) (s .round .running) (s .round .turn) R d e
 
-  pub told-in-range : (d : Sent) → departed s .reply ≡ Departure d → ToldInRange s d
-  unfolding departed visit visitBy surplusCleared roundStarted turnOpened
-  told-in-range d e = by (s .round .turn) refl (s .round .line) refl
-    where
-      x : Flow
-      x = flowAt s (whose (s .round))
+    size : (1 ≤ d .size) × (d .size ≤ sizeLimit)
+    size = first-in-range (subst Sizes (L .first-in-queue) (R .flow-rules (d .flow) .sizes-in-range))
 
-      visit-by : (turn : Serving) (l : List ℕ) → s .round .turn ≡ turn → s .round .line ≡ l → departed s .reply ≡ visitBy turn l (s .round) x .reply
-      visit-by turn l t i = ap₂ (λ (u : Serving) (k : List ℕ). visitBy u k (s .round) x .reply) t i
-
-      by : (turn : Serving) → s .round .turn ≡ turn → (l : List ℕ) → s .round .line ≡ l → ToldInRange s d
-      by (Turn f a n) t l i =
-          let T : TurnFacts s f a n = turn-facts s R f a n t in
-          tells d x f (s .round .mark) a e
-          (visit-by (Turn f a n) l t i ∙ serving-tells (s .round) x f a n)
-          (ap (λ (u : Serving). flowAt s (whoseTurn u (s .round .line)) .queue) t)
-          (T .in-reach) (T .waits) (in-range s R .mark-in-range) (turn-allowed-at-least-weight s R f a n t) (T .weighs) (T .allowed-in-range)
-      by NoTurn t [] i =
-          let idle : departed s .reply ≡ Idle = visit-by NoTurn [] t i in
-          let z : _≡_ {A = ℕ} 0 1 = cc in
-          absurd (omega arith)
-      by NoTurn t (f ∷ l) i =
-          let who : whose (s .round) ≡ f = ap₂ (λ (u : Serving) (k : List ℕ). whoseTurn u k) t i in
-          let H : HeadFacts s f = subst (HeadFacts s) (ap (λ (k : List ℕ). getD k 0 0) i) (head-facts s R t (omega (arith, ap length i))) in
-          let m : ℕ = roundStarted (s .round) .mark in
-          let small : m ≤ markLimit = mark-started (s .round .visits) (s .round .running) (s .round .mark) (in-range s R .running-in-range) (in-range s R .mark-in-range) in
-          let weight : x .weight ≡ flowAt s f .weight = ap (λ (g : ℕ). flowAt s g .weight) who in
-          let surplus : x .surplus ≡ flowAt s f .surplus = ap (λ (g : ℕ). flowAt s g .surplus) who in
-          let owed : x .surplus ≤ x .weight * m = rw (weight, surplus) (H .owed) in
-          tells d (surplusCleared x) f m (headAllowance (s .round) x) e
-          (visit-by NoTurn (f ∷ l) t i ∙ serving-tells (turnOpened (roundStarted (s .round)) f (headAllowance (s .round) x)) (surplusCleared x) f (headAllowance (s .round) x) 0)
-          (ap (λ (g : ℕ). flowAt s g .queue) who)
-          (H .in-reach) (H .waits) small
-          (omega (arith, owed, weight))
-          (H .weighs)
-          (omega (arith, mul-le-mul (R .flow-rules (whose (s .round)) .weight-in-range) small, R .flow-rules (whose (s .round)) .weight-in-range))
+    waits : flowAt s (d .flow) .queue ≡ [] → ⊥
+    waits empty = omega (arith, ap length (L .first-in-queue), ap length empty)

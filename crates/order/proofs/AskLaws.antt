@@ -11,12 +11,12 @@ use Rattle.err.specs.Calls.{openRefusal, offerRefusal, openFlow, answerOf}
 use Rattle.err.specs.declared.Answer.{Answer}
 use Rattle.err.specs.declared.Answer.the-variants.{Done, Refused}
 use Rattle.err.proofs.Refusals.{MayOpen, may-open, MayOffer, may-offer}
+use Rattle.err.proofs.Choosing.{zero-chosen, positive-chosen}
 use Rattle.order.specs.Encoding.{RoundHeld, packed, encodeFlow, encodeRound, viewRound, viewFlow}
 use Rattle.order.specs.Premises.{FlowReady, RoundReady, HasRoom, OfferHeld, openedParts, offeredParts}
 use Rattle.order.specs.declared.FlowCell.{FlowCell}
 use Rattle.order.specs.declared.Opened.{Opened}
 use Rattle.order.proofs.Encoded.{waiting-is}
-use Rattle.order.proofs.RoundLaws.{zero-chosen, positive-chosen}
 
 same-opened : {x x′ : FlowCell} {d d′ : Answer} → x ≡ x′ → d ≡ d′ → _≡_ {A = Opened} (record { flow = x; answer = d }) (record { flow = x′; answer = d′ })
 same-opened a b = λ i. record { flow = a i; answer = b i }
@@ -53,8 +53,7 @@ module _ (x : FlowCell) (f n : ℕ) (ready : FlowReady x) where
     pub has-room-here : n ≡ 0 → HasRoom x size
     has-room-here z =
         record {
-          form = ready .form;
-          rules = ready .rules;
+          ready = ready;
           room = omega (arith, waiting-is x (ready .form), may-offer-here z .has-room);
           size-positive = may-offer-here z .size-positive;
           size-small = may-offer-here z .size-small;

@@ -13,7 +13,8 @@ use Rattle.err.specs.Steps.{Visit, roundStarted, allowance, headAllowance, turn
 use Rattle.err.specs.declared.Reply.the-variants.{Idle}
 use Rattle.err.specs.declared.Serving.{Serving}
 use Rattle.err.specs.declared.Serving.the-variants.{NoTurn, Turn}
-use Rattle.err.proofs.Flows.{cleared-flow-rules}
+use Rattle.err.proofs.Flows.{cleared-flow-rules, none-is-empty}
+use Rattle.err.proofs.Choosing.{chosen-has}
 use Rattle.order.specs.Encoding.{RoundHeld, lineRoom, cells, encodeFlow, encodeRound, viewRound, viewFlow}
 use Rattle.order.specs.Premises.{FlowReady, RoundReady, HasFirst, MayServe, MayBegin, MayVisit, VisitHeld, encodeVisit}
 use Rattle.order.specs.declared.FlowCell.{FlowCell}
@@ -36,10 +37,6 @@ visit-of-head [] r x h = absurd (omega arith)
 visit-of-head (f ∷ l) r x h = refl
 
 -- Where a round may start, its numbers stay in range and a visit is left.
-chosen-small : (v a b k : ℕ) → a ≤ k → b ≤ k → ifZero v a b ≤ k
-chosen-small zero a b k h g = h
-chosen-small (suc v) a b k h g = g
-
 some-visit : (v n : ℕ) → 0 < n → 1 ≤ ifZero v n v
 some-visit zero n h = h
 some-visit (suc v) n h = omega arith
@@ -55,11 +52,8 @@ module _ (r : RoundHeld) (x : FlowCell) (h : MayBegin r x) where
   unfolding roundStarted viewRound
   started-ready =
       round-ready (roundStarted (viewRound r)) line-fits-here
-      (chosen-small (r .visits) (r .running) (r .mark) markLimit (h .round-ready .running-in-range) (h .round-ready .mark-in-range))
-      (chosen-small (r .visits) 0 (r .running) markLimit (omega arith) (h .round-ready .running-in-range))
-
-  pub ready-of-first : FlowReady x
-  ready-of-first = record { form = h .has-first .form; rules = h .has-first .rules }
+      (chosen-has (λ (m : ℕ). m ≤ markLimit) (r .visits) (r .running) (r .mark) (λ z. h .round-ready .running-in-range) (h .round-ready .mark-in-range))
+      (chosen-has (λ (m : ℕ). m ≤ markLimit) (r .visits) 0 (r .running) (λ z. omega arith) (h .round-ready .running-in-range))
 
   module _ (now : RoundHeld) (n : now ≡ encodeRound (roundStarted (viewRound r))) where
     pub now-ready : RoundReady now
@@ -75,7 +69,7 @@ module _ (r : RoundHeld) (x : FlowCell) (h : MayBegin r x) where
 
     pub may-allow : (x .weight ≤ weightLimit) × (now .mark ≤ markLimit) × (x .surplus ≤ x .weight * now .mark)
     unfolding viewFlow
-    may-allow = (h .has-first .rules .weight-in-range, now-ready .mark-in-range, rw mark-is (h .owed))
+    may-allow = (h .has-first .ready .rules .weight-in-range, now-ready .mark-in-range, rw mark-is (h .owed))
 
     module _ (allowed : ℕ) (a : allowed ≡ allowance (x .weight) (now .mark) (x .surplus)) (opened : RoundHeld) (f : ℕ)
         (o : opened ≡ encodeRound (turnOpened (viewRound now) f allowed)) (clear : FlowCell) (k : clear ≡ encodeFlow (surplusCleared (viewFlow x))) where
@@ -83,7 +77,7 @@ module _ (r : RoundHeld) (x : FlowCell) (h : MayBegin r x) where
       now-seen = ap viewRound n ∙ round-seen (roundStarted (viewRound r))
 
       clear-rules : FlowRules (surplusCleared (viewFlow x))
-      clear-rules = cleared-flow-rules (viewFlow x) (h .has-first .rules)
+      clear-rules = cleared-flow-rules (viewFlow x) (h .has-first .ready .rules)
 
       one-less : length (drop 1 (viewRound now .line)) ≡ now .length - 1
       one-less = length-drop 1 (viewRound now .line) ∙ ap (λ (m : ℕ). m - 1) (sym (length-is now (now-ready .form)))
@@ -108,9 +102,8 @@ module _ (r : RoundHeld) (x : FlowCell) (h : MayBegin r x) where
             round-ready = opened-ready;
             has-first =
                 record {
-                  form = clear-ready .form;
-                  rules = clear-ready .rules;
-                  waits = omega (arith, ap (λ (c : FlowCell). c .waiting) k, waiting-is x (h .has-first .form), h .has-first .waits);
+                  ready = clear-ready;
+                  waits = omega (arith, ap (λ (c : FlowCell). c .waiting) k, waiting-is x (h .has-first .ready .form), h .has-first .waits);
                 };
             weighs = omega (arith, ap (λ (c : FlowCell). c .weight) k, h .weighs);
             no-surplus = ap (λ (c : FlowCell). c .surplus) k;
@@ -149,10 +142,6 @@ pub head-law : (r : RoundHeld) (x : FlowCell) → r .turn ≡ NoTurn
 unfolding visit viewRound
 head-law r x t = ap (λ (u : Serving). visitBy u (viewRound r .line) (viewRound r) (viewFlow x)) t
 
-nobody : (l : List ℕ) → length l ≡ 0 → l ≡ []
-nobody [] e = refl
-nobody (f ∷ l) e = absurd (omega arith)
-
 -- With no open turn and nobody in line it is idle.
 pub idle-law : (r : RoundHeld) (x : FlowCell) → MayVisit r x → r .turn ≡ NoTurn → r .length ≡ 0
     → record { round = r; flow = x; reply = Idle } ≡ encodeVisit (visit (viewRound r) (viewFlow x))
@@ -161,7 +150,7 @@ idle-law r x h t e =
     same-visit (h .round-ready .form) (h .flow-form) refl
     ∙ ap encodeVisit
     (sym (head-law r x t
-    ∙ ap (λ (l : List ℕ). visitBy NoTurn l (viewRound r) (viewFlow x)) (nobody (viewRound r .line) (sym (length-is r (h .round-ready .form)) ∙ e))))
+    ∙ ap (λ (l : List ℕ). visitBy NoTurn l (viewRound r) (viewFlow x)) (none-is-empty (viewRound r .line) (sym (length-is r (h .round-ready .form)) ∙ e))))
 
 pub whose-turn : (r : RoundHeld) (f allowed sent : ℕ) → r .turn ≡ Turn f allowed sent → f ≡ whose (viewRound r)
 unfolding viewRound

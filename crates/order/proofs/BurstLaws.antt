@@ -27,7 +27,7 @@ use Rattle.order.specs.Encoding.{encode, view, Sound}
 use Rattle.order.specs.Promised.{countedAs, BurstGives}
 use Rattle.order.specs.declared.Counted.{Counted}
 use Rattle.order.specs.declared.State.{State}
-use Rattle.order.proofs.StateLaws.{seen, sound-of}
+use Rattle.order.proofs.StateLaws.{seen-as, sound-of}
 
 -- After `made` departures, with the state c and the list as they then are.
 pub record Underway (s : Scheduler) (n : ℕ) (before : List ℕ) (c : State) (made : ℕ) (list : List ℕ) : Type 0 where
@@ -63,9 +63,6 @@ module _ (s : Scheduler) (n : ℕ) (before : List ℕ) (c : State) (made : ℕ) 
   after-sound : Sound (encode (departed (view c) .state))
   after-sound = sound-of (departed (view c) .state) (departed-keeps (view c) (U .sound .rules))
 
-  after-seen : (c′ : State) → c′ ≡ encode (departed (view c) .state) → view c′ ≡ departed (view c) .state
-  after-seen c′ e = ap view e ∙ seen (departed (view c) .state) (departed-keeps (view c) (U .sound .rules))
-
   pub one-more-made : (c′ : State) (d : Sent) → made < n → c′ ≡ encode (departed (view c) .state) → departed (view c) .reply ≡ Departure d
       → Underway s n before c′ (made + 1) (set list made (d .flow))
   unfolding andThen
@@ -96,7 +93,7 @@ module _ (s : Scheduler) (n : ℕ) (before : List ℕ) (c : State) (made : ℕ) 
           ap (λ (k : ℕ). departures k (view c)) one
           ∙ departures-first (n - (made + 1)) (view c)
           ∙ ap (λ (r : Reply). andThen r (departed (view c) .state) (departures (n - (made + 1)) (departed (view c) .state))) reply
-          ∙ ap (λ (t : Scheduler). record { state = departures (n - (made + 1)) t .state; sent = d ∷ departures (n - (made + 1)) t .sent }) (sym (after-seen c′ e))
+          ∙ ap (λ (t : Scheduler). record { state = departures (n - (made + 1)) t .state; sent = d ∷ departures (n - (made + 1)) t .sent }) (sym (seen-as (departed-keeps (view c) (U .sound .rules)) e))
 
       written : take (made + 1) (set list made (d .flow)) ≡ take made list ++ (d .flow ∷ [])
       written = ap (λ (k : ℕ). take k (set list made (d .flow))) (add-one made) ∙ take-suc-set list made (d .flow) (omega (arith, U .list-fits, U .same-length))

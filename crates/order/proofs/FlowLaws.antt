@@ -9,7 +9,8 @@ use Rattle.err.specs.Limits.{weightLimit, queueLimit, sizeLimit}
 use Rattle.err.specs.Choose.{ifEmpty}
 use Rattle.err.specs.Rules.{Sizes, none, one}
 use Rattle.err.specs.Steps.{packetJoined, surplusCleared, firstSize, firstLeft, excessKept}
-use Rattle.err.proofs.Flows.{sizes-joined}
+use Rattle.err.proofs.Flows.{sizes-joined, first-small}
+use Rattle.err.proofs.Choosing.{empty-by-count, waiting-by-count}
 use Rattle.order.specs.Encoding.{packed, encodeFlow, viewFlow}
 use Rattle.order.specs.Premises.{FlowReady, HasFirst, HasRoom}
 use Rattle.order.specs.declared.FlowCell.{FlowCell}
@@ -21,48 +22,35 @@ same-cell : {w w′ σ σ′ k k′ n n′ m m′ : ℕ} → w ≡ w′ → σ �
     → _≡_ {A = FlowCell} (record { weight = w; surplus = σ; slot = k; waiting = n; sizes = m }) (record { weight = w′; surplus = σ′; slot = k′; waiting = n′; sizes = m′ })
 same-cell a b c d e = λ i. record { weight = a i; surplus = b i; slot = c i; waiting = d i; sizes = e i }
 
--- Whether a queue is empty shows in how many wait.
-pub empty-by-count : {A : Type 0} (q : List ℕ) (a b : A) → length q ≡ 0 → ifEmpty q a b ≡ a
-empty-by-count [] a b e = refl
-empty-by-count (p ∷ q) a b e = absurd (omega arith)
-
-pub waiting-by-count : {A : Type 0} (q : List ℕ) (a b : A) → (length q ≡ 0 → ⊥) → ifEmpty q a b ≡ b
-waiting-by-count [] a b d = absurd (d refl)
-waiting-by-count (p ∷ q) a b d = refl
-
 -- One less than a size, added at the next place.
 size-added : (q : List ℕ) (m n worth size : ℕ) → m ≡ packed q → n ≡ length q → worth ≡ sizeLimit ^ n
     → m + worth * (size - 1) ≡ packed (q ++ (size ∷ []))
 size-added q m n place size e k p = rw (e, p, k, sub-one) (sym (packed-joined q size))
 
-first-small : (q : List ℕ) → Sizes q → getD q 0 0 ≤ sizeLimit
-first-small q none = omega arith
-first-small q (one {p} a b more) = b
-
 module _ (x : FlowCell) (size : ℕ) (h : HasRoom x size) (worth : ℕ) (p : worth ≡ sizeLimit ^ x .waiting) where
   added-sizes : x .sizes + worth * (size - 1) ≡ packed (viewFlow x .queue ++ (size ∷ []))
-  added-sizes = size-added (viewFlow x .queue) (x .sizes) (x .waiting) worth size (sizes-are x (h .form)) (waiting-is x (h .form)) p
+  added-sizes = size-added (viewFlow x .queue) (x .sizes) (x .waiting) worth size (sizes-are x (h .ready .form)) (waiting-is x (h .ready .form)) p
 
   one-more : x .waiting + 1 ≡ length (viewFlow x .queue ++ (size ∷ []))
-  one-more = omega (arith, waiting-is x (h .form), length-append (viewFlow x .queue) (size ∷ []))
+  one-more = omega (arith, waiting-is x (h .ready .form), length-append (viewFlow x .queue) (size ∷ []))
 
   pub joined-fits : x .sizes + worth * (size - 1) < 2 ^ 64
   joined-fits =
-      omega (arith, added-sizes, packed-fits (sizes-joined (h .rules .sizes-in-range) (h .size-positive) (h .size-small)) (omega (arith, one-more, h .room)))
+      omega (arith, added-sizes, packed-fits (sizes-joined (h .ready .rules .sizes-in-range) (h .size-positive) (h .size-small)) (omega (arith, one-more, h .room)))
 
   pub joined-first : x .waiting ≡ 0
       → record { weight = x .weight; surplus = 0; slot = x .slot; waiting = 1; sizes = x .sizes + worth * (size - 1) }
       ≡ encodeFlow (packetJoined (viewFlow x) size)
   unfolding encodeFlow packetJoined viewFlow
   joined-first e =
-      same-cell refl (sym (empty-by-count (viewFlow x .queue) 0 (x .surplus) (omega (arith, waiting-is x (h .form))))) refl (omega (arith, one-more)) added-sizes
+      same-cell refl (sym (empty-by-count (viewFlow x .queue) 0 (x .surplus) (omega (arith, waiting-is x (h .ready .form))))) refl (omega (arith, one-more)) added-sizes
 
   pub joined-behind : (x .waiting ≡ 0 → ⊥)
       → record { weight = x .weight; surplus = x .surplus; slot = x .slot; waiting = x .waiting + 1; sizes = x .sizes + worth * (size - 1) }
       ≡ encodeFlow (packetJoined (viewFlow x) size)
   unfolding encodeFlow packetJoined viewFlow
   joined-behind d =
-      same-cell refl (sym (waiting-by-count (viewFlow x .queue) 0 (x .surplus) (λ e. d (waiting-is x (h .form) ∙ e)))) refl one-more added-sizes
+      same-cell refl (sym (waiting-by-count (viewFlow x .queue) 0 (x .surplus) (λ e. d (waiting-is x (h .ready .form) ∙ e)))) refl one-more added-sizes
 
 module _ (x : FlowCell) (h : FlowReady x) where
   pub weight-small : x .weight ≤ weightLimit
@@ -96,18 +84,18 @@ module _ (x : FlowCell) (h : FlowReady x) where
 
 module _ (x : FlowCell) (h : HasFirst x) where
   some : 0 < length (viewFlow x .queue)
-  some = omega (arith, waiting-is x (h .form), h .waits)
+  some = omega (arith, waiting-is x (h .ready .form), h .waits)
 
   pub first-size-law : x .sizes % sizeLimit + 1 ≡ firstSize (viewFlow x)
-  first-size-law = ap (λ (m : ℕ). m % sizeLimit + 1) (sizes-are x (h .form)) ∙ packed-first (h .rules .sizes-in-range) some
+  first-size-law = ap (λ (m : ℕ). m % sizeLimit + 1) (sizes-are x (h .ready .form)) ∙ packed-first (h .ready .rules .sizes-in-range) some
 
   pub first-size-small : firstSize (viewFlow x) ≤ sizeLimit
-  first-size-small = first-small (viewFlow x .queue) (h .rules .sizes-in-range)
+  first-size-small = first-small (h .ready .rules .sizes-in-range)
 
   pub first-left-law : record { weight = x .weight; surplus = x .surplus; slot = (x .slot + 1) % queueLimit; waiting = x .waiting - 1; sizes = x .sizes / sizeLimit }
       ≡ encodeFlow (firstLeft (viewFlow x))
   unfolding encodeFlow firstLeft viewFlow
   first-left-law =
       same-cell refl refl refl
-      (ap (λ (n : ℕ). n - 1) (waiting-is x (h .form)) ∙ sym (length-drop 1 (viewFlow x .queue)))
-      (ap (λ (m : ℕ). m / sizeLimit) (sizes-are x (h .form)) ∙ packed-left (h .rules .sizes-in-range) some)
+      (ap (λ (n : ℕ). n - 1) (waiting-is x (h .ready .form)) ∙ sym (length-drop 1 (viewFlow x .queue)))
+      (ap (λ (m : ℕ). m / sizeLimit) (sizes-are x (h .ready .form)) ∙ packed-left (h .ready .rules .sizes-in-range) some)

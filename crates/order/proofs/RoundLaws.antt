@@ -14,11 +14,11 @@ use Rattle.err.specs.Steps.{flowLined, roundStarted, turnOpened, turnEnds, turn
 use Rattle.err.proofs.Rounding.{rounded-up-within, rounded-up-beyond}
 use Rattle.err.specs.declared.Serving.{Serving}
 use Rattle.err.specs.declared.Serving.the-variants.{NoTurn, Turn}
+use Rattle.err.proofs.Choosing.{zero-chosen, positive-chosen, empty-by-count, waiting-by-count}
 use Rattle.order.specs.Encoding.{RoundHeld, lineRoom, cells, encodeRound, viewRound, viewFlow}
 use Rattle.order.specs.Premises.{FlowReady, RoundReady}
 use Rattle.order.specs.declared.FlowCell.{FlowCell}
 use Rattle.order.proofs.Encoded.{cells-length, cells-joined, cells-left, waiting-is, line-is, length-is}
-use Rattle.order.proofs.FlowLaws.{empty-by-count, waiting-by-count}
 
 -- Two rounds' cells with equal parts are equal.
 pub same-round : {l l′ : List ℕ} {n n′ v v′ m m′ k k′ : ℕ} {t t′ : Serving} → l ≡ l′ → n ≡ n′ → v ≡ v′ → m ≡ m′ → k ≡ k′ → t ≡ t′
@@ -35,14 +35,6 @@ head-taken [] c e h b = absurd (omega arith)
 head-taken (f ∷ l) c e h b =
     rw e (ap (λ (n : ℕ). drop 1 (cells lineRoom (f ∷ l)) ++ drop (n - 1) (cells lineRoom (f ∷ l))) (cells-length lineRoom (f ∷ l) (omega arith))
     ∙ cells-left lineRoom f l (omega arith))
-
-pub zero-chosen : {A : Type 0} (n : ℕ) (a b : A) → n ≡ 0 → ifZero n a b ≡ a
-zero-chosen zero a b e = refl
-zero-chosen (suc n) a b e = absurd (omega arith)
-
-pub positive-chosen : {A : Type 0} (n : ℕ) (a b : A) → (n ≡ 0 → ⊥) → ifZero n a b ≡ b
-positive-chosen zero a b d = absurd (d refl)
-positive-chosen (suc n) a b d = refl
 
 module _ (r : RoundHeld) (h : RoundReady r) where
   -- The round as it is seen, with other numbers.
@@ -83,11 +75,11 @@ module _ (r : RoundHeld) (h : RoundReady r) where
       (sym (positive-chosen (r .visits) 0 (r .running) d))
       refl
 
-  pub opened-law : (f allowed : ℕ) (line : List ℕ) → 0 < r .length → line ≡ drop 1 (r .line) ++ drop (length (r .line) - 1) (r .line)
+  pub turn-opened-law : (f allowed : ℕ) (line : List ℕ) → 0 < r .length → line ≡ drop 1 (r .line) ++ drop (length (r .line) - 1) (r .line)
       → record { line = line; length = r .length - 1; visits = r .visits; mark = r .mark; running = r .running; turn = Turn f allowed 0 }
       ≡ encodeRound (turnOpened (viewRound r) f allowed)
   unfolding turnOpened encodeRound viewRound
-  opened-law f allowed line b e =
+  turn-opened-law f allowed line b e =
       same-round
       (e ∙ head-taken (viewRound r .line) (r .line) (line-is r (h .form)) (omega (arith, length-is r (h .form))) (omega (arith, length-is r (h .form), h .line-fits)))
       (ap (λ (n : ℕ). n - 1) (length-is r (h .form)) ∙ sym (length-drop 1 (viewRound r .line)))

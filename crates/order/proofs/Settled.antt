@@ -2,14 +2,14 @@
 use Prim.Native.Nat.{ℕ}
 use mathlib.Core.Path.{_≡_, sym, _∙_}
 use mathlib.Core.List.{List}
-use Rattle.order.specs.Promised.{GivesNew, OpenGives, OfferGives, DepartGives, BurstGives}
+use Rattle.order.specs.Promised.{NewGives, OpenGives, OfferGives, DepartGives, BurstGives}
 use Rattle.order.specs.declared.State.{State}
 use Rattle.order.specs.declared.Answered.{Answered}
 use Rattle.order.specs.declared.Departed.{Departed}
 use Rattle.order.specs.declared.Counted.{Counted}
 
 -- New and reset.
-pub new-settled : {a b : State} → GivesNew a → GivesNew b → a ≡ b
+pub new-settled : {a b : State} → NewGives a → NewGives b → a ≡ b
 new-settled p q = p .outcome ∙ sym (q .outcome)
 
 pub open-settled : {s : State} {f weight : ℕ} {a b : Answered} → OpenGives s f weight a → OpenGives s f weight b → a ≡ b

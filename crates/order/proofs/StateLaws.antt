@@ -19,12 +19,13 @@ use Rattle.err.specs.declared.Answer.{Answer}
 use Rattle.err.specs.declared.Reply.{Reply}
 use Rattle.err.specs.declared.Serving.{Serving}
 use Rattle.err.specs.declared.Serving.the-variants.{NoTurn, Turn}
-use Rattle.err.proofs.Flows.{put-back}
+use Rattle.err.proofs.Flows.{put-back, none-is-empty}
 use Rattle.err.proofs.Keeps.{new-keeps, opened-keeps, offered-keeps, departed-keeps}
 use Rattle.err.proofs.Standing.{InRange, TurnFacts, HeadFacts, in-range, room-for-another, turn-facts, head-facts, whose-in-reach}
+use Rattle.err.proofs.Choosing.{zero-chosen, positive-chosen, chosen-has}
 use Rattle.order.specs.Encoding.{RoundHeld, held, numbersOf, roundOf, encodeFlow, viewFlow, encodeRound, viewRound, encode, view, Sound}
 use Rattle.order.specs.Premises.{FlowReady, RoundReady, HasFirst, MayServe, MayBegin, MayVisit, VisitHeld, encodeVisit, heldVisit, OfferHeld, withLength, heldOffer, openedParts, offeredParts}
-use Rattle.order.specs.Promised.{answeredAs, departedAs, GivesNew, OpenGives, OfferGives, DepartGives}
+use Rattle.order.specs.Promised.{answeredAs, departedAs, NewGives, OpenGives, OfferGives, DepartGives}
 use Rattle.order.specs.declared.Answered.{Answered}
 use Rattle.order.specs.declared.Offered.{Offered}
 use Rattle.order.specs.declared.Opened.{Opened}
@@ -35,10 +36,9 @@ use Rattle.order.specs.declared.State.{State}
 use Rattle.order.specs.declared.Visited.{Visited}
 use Rattle.order.proofs.Encoded.{flow-seen, flow-ready, round-seen, round-ready, waiting-is, length-is}
 use Rattle.order.proofs.BeginLaws.{head-is}
-use Rattle.order.proofs.RoundLaws.{zero-chosen, positive-chosen}
 
 -- What reading past the end of the flows would give.
-abbrev noCell : FlowCell
+abbrev pub noCell : FlowCell
 noCell = record { weight = 0; surplus = 0; slot = 0; waiting = 0; sizes = 0 }
 
 flows-seen : (l : List Flow) → ((f : ℕ) → Sizes (getD l f closedFlow .queue)) → map viewFlow (map encodeFlow l) ≡ l
@@ -51,6 +51,23 @@ seen s R =
     ap₂ (λ (l : List Flow) (r : Round). record { flows = l; round = r })
     (flows-seen (s .flows) (λ f. R .flow-rules f .sizes-in-range))
     (round-seen (s .round))
+
+pub seen-as : {c : State} {s : Scheduler} → Rules s → c ≡ encode s → view c ≡ s
+seen-as {c} {s} R e = ap view e ∙ seen s R
+
+-- What the state given back stands for.
+module _ {c : State} (S : Sound c) where
+  pub open-seen : {f weight : ℕ} {r : Answered} → OpenGives c f weight r → view (r .state) ≡ opened (view c) f weight .state
+  unfolding answeredAs
+  open-seen {f} {weight} g = seen-as (opened-keeps (view c) f weight (S .rules)) (ap (λ (a : Answered). a .state) (g .outcome))
+
+  pub offer-seen : {f size : ℕ} {r : Answered} → OfferGives c f size r → view (r .state) ≡ offered (view c) f size .state
+  unfolding answeredAs
+  offer-seen {f} {size} g = seen-as (offered-keeps (view c) f size (S .rules)) (ap (λ (a : Answered). a .state) (g .outcome))
+
+  pub depart-seen : {r : Departed} → DepartGives c r → view (r .state) ≡ departed (view c) .state
+  unfolding departedAs
+  depart-seen g = seen-as (departed-keeps (view c) (S .rules)) (ap (λ (a : Departed). a .state) (g .outcome))
 
 pub sound-of : (s : Scheduler) → Rules s → Sound (encode s)
 sound-of s R = record { form = ap encode (sym (seen s R)); rules = subst Rules (sym (seen s R)) R }
@@ -122,8 +139,7 @@ module _ (c : State) (S : Sound c) where
     has-first-at : (flowAt (view c) f .queue ≡ [] → ⊥) → HasFirst (getD (c .flows) f noCell)
     has-first-at waits =
         record {
-          form = cell-ready f h .form;
-          rules = cell-ready f h .rules;
+          ready = cell-ready f h;
           waits = omega (arith, count-is, some (flowAt (view c) f .queue) waits);
         }
       where
@@ -285,27 +301,19 @@ module _ (c : State) (S : Sound c) where
         x : Flow
         x = viewFlow (getD (c .flows) at noCell)
 
-        either : (n : ℕ) (r : Round) → ifZero n r r ≡ r
-        either zero r = refl
-        either (suc n) r = refl
-
         outcome-here : record { state = record { flows = set (c .flows) at (a .flow); line = c .line; round = c .round }; answer = a .answer }
             ≡ answeredAs (opened (view c) f weight)
         outcome-here =
             asked-outcome (openRefusal f weight) (λ y h. no-such-flow _ h) (λ y. openFlow weight) (λ y. view c .round)
             (a .flow) (c .line) (c .round) (a .answer) x (cell-seen at place-in-reach)
             (ap (λ (k : Opened). k .flow) g)
-            (round-form ∙ ap encodeRound (sym (either (openRefusal f weight x) (view c .round))))
+            (round-form ∙ ap encodeRound (sym (chosen-has (λ (r : Round). r ≡ view c .round) (openRefusal f weight x) (view c .round) (view c .round) (λ z. refl) refl)))
             (ap (λ (k : Opened). k .answer) g)
 
     pub room-in-line : f < flowLimit → getD (c .flows) at noCell .waiting ≡ 0 → c .round .length < flowLimit
     unfolding view
     room-in-line b z =
-        omega (arith, length-is (roundOf c) round-form, room-for-another (view c) (S .rules) at place-in-reach (nothing (flowAt (view c) at .queue) (sym (count-is at place-in-reach) ∙ z)))
-      where
-        nothing : (q : List ℕ) → length q ≡ 0 → q ≡ []
-        nothing [] e = refl
-        nothing (p ∷ q) e = absurd (omega arith)
+        omega (arith, length-is (roundOf c) round-form, room-for-another (view c) (S .rules) at place-in-reach (none-is-empty (flowAt (view c) at .queue) (sym (count-is at place-in-reach) ∙ z)))
 
     pub offered-gives : (size : ℕ) (o : Offered) (line : List ℕ) → heldOffer line (c .round) o ≡ offeredParts (roundOf c) (getD (c .flows) at noCell) f size
         → OfferGives c f size (record { state = record { flows = set (c .flows) at (o .flow); line = line; round = withLength (c .round) (o .length) }; answer = o .answer })
@@ -326,14 +334,5 @@ module _ (c : State) (S : Sound c) where
             (o .flow) line (withLength (c .round) (o .length)) (o .answer) x (cell-seen at place-in-reach)
             (ap (λ (k : OfferHeld). k .flow) g) (ap (λ (k : OfferHeld). k .round) g) (ap (λ (k : OfferHeld). k .answer) g)
 
--- What the state given back stands for.
-pub offer-seen : (c : State) → Sound c → (f size : ℕ) (r : Answered) → OfferGives c f size r → view (r .state) ≡ offered (view c) f size .state
-unfolding answeredAs
-offer-seen c S f size r g = ap (λ (a : Answered). view (a .state)) (g .outcome) ∙ seen (offered (view c) f size .state) (offered-keeps (view c) f size (S .rules))
-
-pub depart-seen : (c : State) → Sound c → (r : Departed) → DepartGives c r → view (r .state) ≡ departed (view c) .state
-unfolding departedAs
-depart-seen c S r g = ap (λ (a : Departed). view (a .state)) (g .outcome) ∙ seen (departed (view c) .state) (departed-keeps (view c) (S .rules))
-
-pub new-gives : GivesNew (encode newScheduler)
+pub new-gives : NewGives (encode newScheduler)
 new-gives = record { outcome = refl; sound = sound-of newScheduler new-keeps }

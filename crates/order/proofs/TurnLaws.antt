@@ -16,11 +16,12 @@ use Rattle.err.specs.declared.Reply.the-variants.{Departure, Idle}
 use Rattle.err.specs.declared.Serving.{Serving}
 use Rattle.err.specs.declared.Serving.the-variants.{NoTurn, Turn}
 use Rattle.err.proofs.Flows.{left-flow-rules, cleared-flow-rules}
+use Rattle.err.proofs.Choosing.{empty-by-count, waiting-by-count}
 use Rattle.order.specs.Encoding.{RoundHeld, encodeFlow, encodeRound, viewRound, viewFlow}
 use Rattle.order.specs.Premises.{FlowReady, RoundReady, HasFirst, MayServe, MayBegin, MayVisit, VisitHeld, encodeVisit}
 use Rattle.order.specs.declared.FlowCell.{FlowCell}
 use Rattle.order.proofs.Encoded.{flow-seen, flow-ready, round-seen, round-ready, waiting-is, line-is, length-is}
-use Rattle.order.proofs.FlowLaws.{empty-by-count, waiting-by-count, nothing-kept, first-size-small}
+use Rattle.order.proofs.FlowLaws.{nothing-kept, first-size-small}
 
 -- A flow without surplus keeps its rules when its first packet leaves.
 left-rules-parts : (w k : ℕ) (q : List ℕ) → FlowRules (record { weight = w; surplus = 0; slot = k; queue = q }) → 0 < length q
@@ -48,7 +49,7 @@ module _ (r : RoundHeld) (x : FlowCell) (allowed sent : ℕ) (h : MayServe r x a
   left-rules-here : FlowRules (firstLeft (viewFlow x))
   unfolding viewFlow
   left-rules-here =
-      left-rules (viewFlow x) (h .has-first .rules) (h .no-surplus) (omega (arith, waiting-is x (h .has-first .form), h .has-first .waits))
+      left-rules (viewFlow x) (h .has-first .ready .rules) (h .no-surplus) (omega (arith, waiting-is x (h .has-first .ready .form), h .has-first .waits))
 
   pub sent-small : (size : ℕ) → size ≡ firstSize (viewFlow x) → sent + size < allowanceLimit + sizeLimit
   sent-small size e = omega (arith, first-size-small x (h .has-first), h .allowed-in-range, h .more-may-be-sent)

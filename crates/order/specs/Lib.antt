@@ -3,4 +3,4 @@
 pub mod Encoding
 pub mod Premises
 pub mod Promised
-pub mod Ran
+pub mod Runs

@@ -25,14 +25,12 @@ pub record FlowReady (x : FlowCell) : Type 0 where
 
 -- It also has a packet waiting.
 pub record HasFirst (x : FlowCell) : Type 0 where
-  pub form : x ≡ encodeFlow (viewFlow x)
-  pub rules : FlowRules (viewFlow x)
+  pub ready : FlowReady x
   pub waits : 0 < x .waiting
 
 -- It also has room for a packet of this size.
 pub record HasRoom (x : FlowCell) (size : ℕ) : Type 0 where
-  pub form : x ≡ encodeFlow (viewFlow x)
-  pub rules : FlowRules (viewFlow x)
+  pub ready : FlowReady x
   pub room : x .waiting < queueLimit
   pub size-positive : 1 ≤ size
   pub size-small : size ≤ sizeLimit

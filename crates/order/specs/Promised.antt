@@ -24,7 +24,7 @@ unfoldable pub countedAs : Burst → Counted
 countedAs b = record { state = encode (b .state); count = b .reply }
 
 -- New and reset.
-pub record GivesNew (r : State) : Type 0 where
+pub record NewGives (r : State) : Type 0 where
   pub outcome : r ≡ encode newScheduler
   pub sound : Sound r
 

@@ -1,6 +1,6 @@
 // The calls on packet sizes: document 01's order layer. Each takes the scheduler's state and hands it back beside its reply.
 ghost use Rattle.order.specs.Encoding.{Sound};
-ghost use Rattle.order.specs.Promised.{GivesNew, OpenGives, OfferGives, DepartGives, BurstGives};
+ghost use Rattle.order.specs.Promised.{NewGives, OpenGives, OfferGives, DepartGives, BurstGives};
 use err::Answer;
 use err::Count;
 use err::FLOW_LIMIT;
@@ -81,7 +81,7 @@ pub struct Counted {
 // A call changes the state that it was handed in place, and hands it back: that costs the fewest copies.
 impl State {
     pub fn new() -> State
-        ensures { λ r. ⌜ GivesNew r ⌝ }
+        ensures { λ r. ⌜ NewGives r ⌝ }
     {
         let closed = FlowCell {
             weight: 0,
@@ -105,7 +105,7 @@ impl State {
     }
 
     pub fn reset(self) -> State
-        ensures { λ r. ⌜ GivesNew r ⌝ }
+        ensures { λ r. ⌜ NewGives r ⌝ }
     {
         State::new()
     }

@@ -20,7 +20,7 @@ use Rattle.order.specs.Promised.{answeredAs, departedAs, OpenGives, OfferGives,
 use Rattle.order.specs.declared.Answered.{Answered}
 use Rattle.order.specs.declared.Departed.{Departed}
 use Rattle.order.specs.declared.State.{State}
-use Rattle.order.proofs.StateLaws.{seen}
+use Rattle.order.proofs.StateLaws.{open-seen, offer-seen, depart-seen}
 use Rattle.play.specs.Course.{replayOf, asked, Goes}
 use Rattle.print.specs.Page.{Page, page, put}
 use Rattle.play.specs.Story.{sent, idle, Replay, Happening, refusal, answered, sending, happening}
@@ -29,24 +29,9 @@ use Rattle.play.specs.declared.Course.{Course}
 use Rattle.print.proofs.PageLaws.{put-append}
 use Rattle.play.proofs.StoryLaws.{text-of-one, replay, sending-none, sending-goes-on, sending-ends}
 
--- ---- the scheduler that a state given back stands for
-
-module _ (s : State) (S : Sound s) where
-  view-opened : {f weight : ℕ} {r : Answered} → OpenGives s f weight r → view (r .state) ≡ opened (view s) f weight .state
-  unfolding answeredAs
-  view-opened {f} {weight} g = ap (λ (a : Answered). view (a .state)) (g .outcome) ∙ seen _ (opened-keeps (view s) f weight (S .rules))
-
-  view-offered : {f size : ℕ} {r : Answered} → OfferGives s f size r → view (r .state) ≡ offered (view s) f size .state
-  unfolding answeredAs
-  view-offered {f} {size} g = ap (λ (a : Answered). view (a .state)) (g .outcome) ∙ seen _ (offered-keeps (view s) f size (S .rules))
-
-  view-departed : {r : Departed} → DepartGives s r → view (r .state) ≡ departed (view s) .state
-  unfolding departedAs
-  view-departed g = ap (λ (d : Departed). view (d .state)) (g .outcome) ∙ seen _ (departed-keeps (view s) (S .rules))
-
-  reply-departed : {r : Departed} → DepartGives s r → r .reply ≡ departed (view s) .reply
-  unfolding departedAs
-  reply-departed g = ap (λ (d : Departed). d .reply) (g .outcome)
+reply-departed : {s : State} {r : Departed} → DepartGives s r → r .reply ≡ departed (view s) .reply
+unfolding departedAs
+reply-departed g = ap (λ (d : Departed). d .reply) (g .outcome)
 
 -- ---- one event: a flow opened, a packet offered
 
@@ -71,14 +56,14 @@ module _ (c : Course) (S : Sound (c .state)) (line : ℕ) {before after : List �
   unfolding happening replayOf answeredAs
   open-goes event f weight i g =
       as-event c line event (Flow f weight) i
-      (answer-goes (opened (view (c .state)) f weight) (ap (λ (a : Answered). a .answer) (g .outcome)) (view-opened (c .state) S g) (g .sound))
+      (answer-goes (opened (view (c .state)) f weight) (ap (λ (a : Answered). a .answer) (g .outcome)) (open-seen S g) (g .sound))
 
   pub offer-goes : (event : Event) (f size : ℕ) → event ≡ Arrive f size → OfferGives (c .state) f size r
       → Goes c before (happening (replayOf c) line event) (record { state = r .state; sent = c .sent; past = past }) after
   unfolding happening replayOf answeredAs
   offer-goes event f size i g =
       as-event c line event (Arrive f size) i
-      (answer-goes (offered (view (c .state)) f size) (ap (λ (a : Answered). a .answer) (g .outcome)) (view-offered (c .state) S g) (g .sound))
+      (answer-goes (offered (view (c .state)) f size) (ap (λ (a : Answered). a .answer) (g .outcome)) (offer-seen S g) (g .sound))
 
 -- ---- departures
 
@@ -111,30 +96,30 @@ module _ {goal : Page} {end : Replay} {out : List ℕ} {s : State} {n past left 
           sound = g .sound;
           fits = omega (arith, h .fits);
           told =
-              ap₂ (λ (p : Page) (m : Scheduler). put p (textOf (sending (replay m (n + 1)) (left - 1) .reports))) f (view-departed s (h .sound) g)
+              ap₂ (λ (p : Page) (m : Scheduler). put p (textOf (sending (replay m (n + 1)) (left - 1) .reports))) f (depart-seen (h .sound) g)
               ∙ sym (put-append (page out past) (lineOf (sent (n + 1) d)) (textOf (sending (replay (departed (view s) .state) (n + 1)) (left - 1) .reports)))
               ∙ ap (λ (x : Happening). put (page out past) (textOf (x .reports))) (sym on)
               ∙ h .told;
-          arrives = ap (λ (m : Scheduler). sending (replay m (n + 1)) (left - 1) .after) (view-departed s (h .sound) g) ∙ ap (λ (x : Happening). x .after) (sym on) ∙ h .arrives;
+          arrives = ap (λ (m : Scheduler). sending (replay m (n + 1)) (left - 1) .after) (depart-seen (h .sound) g) ∙ ap (λ (x : Happening). x .after) (sym on) ∙ h .arrives;
         }
       where
         on : sending (replay (view s) n) left ≡ record {
           after = sending (replay (departed (view s) .state) (n + 1)) (left - 1) .after;
           reports = sent (n + 1) d ∷ sending (replay (departed (view s) .state) (n + 1)) (left - 1) .reports;
         }
-        on = ap (sending (replay (view s) n)) one-left ∙ sending-goes-on (view s) n (left - 1) d (sym (reply-departed s (h .sound) g) ∙ e)
+        on = ap (sending (replay (view s) n)) one-left ∙ sending-goes-on (view s) n (left - 1) d (sym (reply-departed g) ∙ e)
 
     pub sends-idle : {after : List ℕ} {next : ℕ} → OneOf (1 ∷ 2 ∷ []) (tagOf the-type (r .reply)) → page after next ≡ put (page out past) (lineOf (idle n))
         → (page after next ≡ goal) × (replay (view (r .state)) n ≡ end)
     sends-idle k f = (
       f ∙ ap (put (page out past)) (sym (text-of-one (idle n))) ∙ ap (λ (x : Happening). put (page out past) (textOf (x .reports))) (sym stops) ∙ h .told,
-      ap (λ (m : Scheduler). replay m n) (view-departed s (h .sound) g) ∙ ap (λ (x : Happening). x .after) (sym stops) ∙ h .arrives,
+      ap (λ (m : Scheduler). replay m n) (depart-seen (h .sound) g) ∙ ap (λ (x : Happening). x .after) (sym stops) ∙ h .arrives,
     )
       where
         stops : sending (replay (view s) n) left ≡ record { after = replay (departed (view s) .state) n; reports = idle n ∷ [] }
         stops =
             ap (sending (replay (view s) n)) one-left
-            ∙ sending-ends (view s) n (left - 1) (subst (λ (x : Reply). OneOf (1 ∷ 2 ∷ []) (tagOf the-type x)) (reply-departed s (h .sound) g) k)
+            ∙ sending-ends (view s) n (left - 1) (subst (λ (x : Reply). OneOf (1 ∷ 2 ∷ []) (tagOf the-type x)) (reply-departed g) k)
 
 -- where the loop begins, and where the function returns
 module _ (c : Course) (S : Sound (c .state)) (count : ℕ) (before : List ℕ) where

@@ -21,6 +21,7 @@ use Rattle.err.specs.declared.Reply.{Reply}
 use Rattle.err.specs.declared.Reply.the-variants.{Departure, Idle, Refused as ReplyRefused}
 use Rattle.err.specs.declared.Sent.{Sent}
 use Rattle.err.proofs.Keeps.{new-keeps, opened-keeps, offered-keeps, departed-keeps, departures-keep}
+use Rattle.err.proofs.Told.{ToldInRange, told-in-range}
 use Rattle.lines.specs.Text.{bytes}
 use Rattle.lines.specs.Line.{lineAt}
 use Rattle.lines.specs.Written.{decimal, field, eventText, written}
@@ -37,7 +38,7 @@ use Rattle.play.specs.Transcript.{inputLimit, outputLimit, replyText, li
 use Rattle.play.proofs.PlayLaws.{too-long, short-enough}
 use Rattle.play.proofs.ScriptLaws.{ends, reads, spoils}
 use Rattle.play.proofs.StoryLaws.{text-append, text-of-one}
-use Rattle.play.proofs.Waiting.{waiting, nothing-waits, opening-waits, offering-waits, departed-waiting, Leaves, leaves}
+use Rattle.play.proofs.Waiting.{waiting, nothing-waits, opening-waits, offering-waits, departed-waiting, one-less}
 
 -- ---- the lengths of printed lines
 
@@ -67,7 +68,7 @@ refused-length k line l h =
       field-length (bytes " line=") line 4 h,
     )
 
-sent-length : (n : ℕ) (s : Scheduler) (d : Sent) → Few n → Leaves s d → length (lineOf (sent n d)) ≤ 48
+sent-length : (n : ℕ) (s : Scheduler) (d : Sent) → Few n → ToldInRange s d → length (lineOf (sent n d)) ≤ 48
 unfolding lineOf replyText
 sent-length n s d h L =
     let flow = field " flow=" (d .flow) in
@@ -182,18 +183,17 @@ departs (suc count) n s R f =
 
     by-reply : (r : Reply) → departed s .reply ≡ r → (waiting after < waiting s → Departs (n + 1) after (departures count after)) → Departs n s (andThen r after (departures count after))
     by-reply (Departure d) e more =
-        let L = leaves s R d e in
-        let rest = more (L .one-less) in
+        let less = one-less s R d e in
+        let rest = more less in
         record {
           printed =
               omega (
                 arith,
                 length-append (lineOf (sent (n + 1) d)) (textOf (numbered (n + 1) (departures count after .sent))),
-                sent-length (n + 1) s d (omega (arith, L .one-less)) L,
+                sent-length (n + 1) s d (omega arith) (told-in-range s R d e),
                 rest .printed,
-                L .one-less,
               );
-          counted = omega (arith, rest .counted, L .one-less);
+          counted = omega (arith, rest .counted);
         }
     by-reply Idle e more = record { printed = omega (arith, departed-waiting s); counted = omega (arith, departed-waiting s) }
     by-reply (ReplyRefused k) e more = record { printed = omega (arith, departed-waiting s); counted = omega (arith, departed-waiting s) }

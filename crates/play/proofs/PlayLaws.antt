@@ -16,9 +16,9 @@ use Rattle.lines.specs.declared.Event.the-variants.{Flow, Arrive, Send}
 use Rattle.lines.specs.declared.Line.the-variants.{Read, Bad}
 use Rattle.lines.proofs.Lines.{moves-on, nothing-else-is-read}
 use Rattle.order.specs.Encoding.{view, Sound}
-use Rattle.order.specs.Promised.{GivesNew}
+use Rattle.order.specs.Promised.{NewGives}
 use Rattle.order.specs.declared.State.{State}
-use Rattle.order.proofs.StateLaws.{seen}
+use Rattle.order.proofs.StateLaws.{seen-as}
 use Rattle.play.specs.Course.{replayOf, asked, Goes}
 use Rattle.print.specs.Page.{Page, page, put}
 use Rattle.play.specs.Script.{Script, scriptFrom, scriptOf}
@@ -28,10 +28,6 @@ use Rattle.play.specs.declared.Course.{Course}
 use Rattle.print.proofs.PageLaws.{put-append}
 use Rattle.play.proofs.ScriptLaws.{ends, rest, rest-reads, rest-spoils}
 use Rattle.play.proofs.StoryLaws.{text-append, text-of-one, replay, departed-at-most}
-
--- of a call's answer, what its contract says and what a match found
-pub alike : {A : Type 0} {answer a b : A} → answer ≡ a → answer ≡ b → a ≡ b
-alike p q = sym p ∙ q
 
 -- ---- too long an input, and any other
 
@@ -57,7 +53,7 @@ pub record Plays (goal : Page) (input out : List ℕ) (c : Course) (at line : �
   pub sent-small : c .sent ≤ at * largest
   pub told : put (page out (c .past)) (textOf (story (replayOf c) line (rest input at))) ≡ goal
 
-pub plays-begin : (input out : List ℕ) (s : State) → length input ≤ inputLimit → GivesNew s
+pub plays-begin : (input out : List ℕ) (s : State) → length input ≤ inputLimit → NewGives s
     → Plays (put (page out 0) (transcript input)) input out (record { state = s; sent = 0; past = 0 }) 0 1
 unfolding replayOf newReplay scriptOf
 plays-begin input out s short g =
@@ -67,7 +63,7 @@ plays-begin input out s short g =
       line-small = omega arith;
       sent-small = omega arith;
       told =
-          ap₂ (λ (m : Scheduler) (n : ℕ). put (page out 0) (textOf (story (replay m 0) 1 (scriptFrom n input 0)))) (ap view (g .outcome) ∙ seen newScheduler new-keeps) all
+          ap₂ (λ (m : Scheduler) (n : ℕ). put (page out 0) (textOf (story (replay m 0) 1 (scriptFrom n input 0)))) (seen-as new-keeps (g .outcome)) all
           ∙ ap (put (page out 0)) (sym (short-enough input short));
     }
   where

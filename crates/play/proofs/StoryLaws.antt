@@ -18,6 +18,7 @@ use Rattle.err.specs.declared.Answer.the-variants.{Done, Refused}
 use Rattle.err.specs.declared.Reply.{Reply}
 use Rattle.err.specs.declared.Reply.the-variants.{Departure, Idle, Refused as ReplyRefused}
 use Rattle.err.proofs.Reply.{the-type}
+use Rattle.order.proofs.BurstLaws.{no-departure-ends}
 use Rattle.lines.specs.declared.Event.{Event}
 use Rattle.lines.specs.declared.Event.the-variants.{Flow, Arrive, Send}
 use Rattle.play.specs.Course.{asked}
@@ -70,18 +71,11 @@ module _ (s : Scheduler) (n k : ℕ) where
         reports = sent (n + 1) d ∷ (numbered (n + 1) (more .sent) ++ cond t (idle m ∷ []) []);
       }) (omega arith) (leb·suc-suc (suc (length (more .sent))) k)
 
-  -- a reply that is no departure
-  ends : (r : Reply) (t : Scheduler) (more : Departures) → OneOf (1 ∷ 2 ∷ []) (tagOf the-type r) → andThen r t more ≡ record { state = t; sent = [] }
-  unfolding andThen
-  ends (Departure d) t more h = absurd (⊎-elim (λ e. omega arith) (λ e. omega arith) h)
-  ends Idle t more h = refl
-  ends (ReplyRefused j) t more h = refl
-
   pub sending-ends : OneOf (1 ∷ 2 ∷ []) (tagOf the-type (departed s .reply))
       → sending (replay s n) (suc k) ≡ record { after = replay (departed s .state) n; reports = idle n ∷ [] }
   unfolding sending departing departures numbered
   sending-ends h =
-      ap (departing (replay s n) (suc k)) (ends (departed s .reply) (departed s .state) (departures k (departed s .state)) h)
+      ap (departing (replay s n) (suc k)) (no-departure-ends (departed s .reply) h (departed s .state) (departures k (departed s .state)))
       ∙ ap₂ (λ (m : ℕ) (t : Bool). record { after = replay (departed s .state) m; reports = cond t (idle m ∷ []) [] }) (omega arith) (lt-ltb 0 (suc k) (omega arith))
 
 -- ---- how many depart

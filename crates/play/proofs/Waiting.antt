@@ -1,5 +1,4 @@
--- How many packets wait in all flows together, and what each call makes of that number; the numbers that a departure tells are in range.
--- Assumes nothing.
+-- How many packets wait in all flows together, and what each call makes of that number.
 use Prim.Native.Nat.{ℕ, zero, suc, _+_, _<_, _≤_, suc-le-suc}
 use native.Mathlib.Decide.{decLt}
 use native.Mathlib.Nat.{mul-le-mul}
@@ -19,7 +18,9 @@ use Rattle.err.specs.declared.Reply.the-variants.{Departure, Idle}
 use Rattle.err.specs.declared.Sent.{Sent}
 use Rattle.err.specs.declared.Serving.{Serving}
 use Rattle.err.specs.declared.Serving.the-variants.{NoTurn, Turn}
-use Rattle.err.proofs.Standing.{in-range, turn-facts, head-facts}
+use Rattle.err.proofs.Standing.{whose-in-reach}
+use Rattle.err.proofs.Flows.{here-now}
+use Rattle.err.proofs.Departing.{Leaves, departed-leaves, visit-adds-none}
 
 -- ---- the packets of a list of flows
 
@@ -73,103 +74,23 @@ offering-waits s f size = held-grows (s .flows) f (packetJoined (flowAt s f) siz
 
 -- ---- a departure
 
-module _ (r : Round) (x : Flow) (f a n : ℕ) where
-  abbrev tells : Sent
-  tells = record { flow = f; size = firstSize x; mark = r .mark; allowance = a }
-
-  served-reply : served r x f a n .reply ≡ Departure tells
-  unfolding served settled
-  served-reply = either (turnEnds a (n + firstSize x) (drop 1 (x .queue)))
-    where
-      either : (t : Bool) → settled t r (firstLeft x) f a (n + firstSize x) (Departure tells) .reply ≡ Departure tells
-      either true = refl
-      either false = refl
-
-  served-queue : served r x f a n .flow .queue ≡ drop 1 (x .queue)
-  unfolding served settled firstLeft excessKept
-  served-queue = either (turnEnds a (n + firstSize x) (drop 1 (x .queue)))
-    where
-      either : (t : Bool) → settled t r (firstLeft x) f a (n + firstSize x) (Departure tells) .flow .queue ≡ drop 1 (x .queue)
-      either true = refl
-      either false = refl
-
-visit-queue : (turn : Serving) (line : List ℕ) (r : Round) (x : Flow) → length (visitBy turn line r x .flow .queue) ≤ length (x .queue)
-unfolding visitBy surplusCleared
-visit-queue (Turn f a n) line r x = omega (arith, ap length (served-queue r x f a n), length-drop 1 (x .queue))
-visit-queue NoTurn [] r x = omega arith
-visit-queue NoTurn (f ∷ line) r x =
-    omega (arith, ap length (served-queue (turnOpened (roundStarted r) f (headAllowance r x)) (surplusCleared x) f (headAllowance r x) 0), length-drop 1 (x .queue))
-
 -- No departure call adds a packet.
 pub departed-waiting : (s : Scheduler) → waiting (departed s .state) ≤ waiting s
-unfolding departed put waiting visit queued
-departed-waiting s =
-    omega (arith, held-grows (s .flows) (whose (s .round)) (nextVisit s .flow) 0 (omega (arith, visit-queue (s .round .turn) (s .round .line) (s .round) (flowAt s (whose (s .round))))))
+unfolding departed put waiting queued
+departed-waiting s = omega (arith, held-grows (s .flows) (whose (s .round)) (nextVisit s .flow) 0 (omega (arith, visit-adds-none s)))
 
--- A departure tells numbers in range, and one packet less waits.
-pub record Leaves (s : Scheduler) (d : Sent) : Type 0 where
-  pub flow-in-range : d .flow < flowLimit
-  pub size-in-range : d .size ≤ sizeLimit
-  pub mark-in-range : d .mark ≤ markLimit
-  pub allowance-in-range : d .allowance ≤ allowanceLimit
-  pub one-less : waiting (departed s .state) < waiting s
+-- Where a packet leaves, one less waits.
+pub one-less : (s : Scheduler) → Rules s → (d : Sent) → departed s .reply ≡ Departure d → waiting (departed s .state) < waiting s
+unfolding departed put waiting queued
+one-less s R d e =
+    held-falls (s .flows) f (nextVisit s .flow)
+    (omega (arith, ap length (subst (λ (g : ℕ). flowAt s g .queue ≡ d .size ∷ flowAt (departed s .state) g .queue) (L .had-the-turn) (L .first-in-queue)), ap (λ (x : Flow). length (x .queue)) left))
+  where
+    f : ℕ
+    f = whose (s .round)
 
-first-small : (q : List ℕ) → Sizes q → getD q 0 0 ≤ sizeLimit
-first-small [] none = omega arith
-first-small (p ∷ q) (one low high more) = high
+    L : Leaves s d (departed s .state)
+    L = departed-leaves s R d e
 
-shorter : (q : List ℕ) → (q ≡ [] → ⊥) → length (drop 1 q) < length q
-shorter [] h = absurd (h refl)
-shorter (p ∷ q) h = omega arith
-
-module _ (s : Scheduler) (R : Rules s) (d : Sent) (e : departed s .reply ≡ Departure d) where
-  abbrev x : Flow
-  x = flowAt s (whose (s .round))
-
-  falls : nextVisit s .flow .queue ≡ drop 1 (x .queue) → (x .queue ≡ [] → ⊥) → waiting (departed s .state) < waiting s
-  unfolding departed put waiting queued
-  falls i h = held-falls (s .flows) (whose (s .round)) (nextVisit s .flow) (omega (arith, ap length i, shorter (x .queue) h))
-
-  -- where the visit is a serving of this flow, in such a round
-  leaves-if : (r : Round) (y : Flow) (f a n : ℕ) → nextVisit s ≡ served r y f a n → y .queue ≡ x .queue → (x .queue ≡ [] → ⊥) → f < flowLimit → r .mark ≤ markLimit → a ≤ allowanceLimit
-      → Leaves s d
-  unfolding departed
-  leaves-if r y f a n v q h b m l =
-      let told : Departure (tells r y f a n) ≡ Departure d = sym (served-reply r y f a n) ∙ sym (ap (λ (w : Visit). w .reply) v) ∙ e in
-      let same : tells r y f a n ≡ d = cc in
-      subst (Leaves s) same
-      (record {
-        flow-in-range = b;
-        size-in-range = subst (λ (k : List ℕ). getD k 0 0 ≤ sizeLimit) (sym q) (first-small (x .queue) (R .flow-rules (whose (s .round)) .sizes-in-range));
-        mark-in-range = m;
-        allowance-in-range = l;
-        one-less = falls (ap (λ (w : Visit). w .flow .queue) v ∙ served-queue r y f a n ∙ ap (drop 1) q) h;
-      })
-
-  started-mark : (visits : ℕ) → ifZero visits (s .round .running) (s .round .mark) ≤ markLimit
-  started-mark zero = in-range s R .running-in-range
-  started-mark (suc n) = in-range s R .mark-in-range
-
-  pub leaves : Leaves s d
-  unfolding visit visitBy departed turnOpened roundStarted surplusCleared
-  leaves = by (s .round .turn) refl (s .round .line) refl
-    where
-      by : (turn : Serving) → s .round .turn ≡ turn → (line : List ℕ) → s .round .line ≡ line → Leaves s d
-      by (Turn f a n) t line i =
-          let T = turn-facts s R f a n t in
-          let here : whose (s .round) ≡ f = ap (λ (u : Serving). whoseTurn u (s .round .line)) t in
-          leaves-if (s .round) x f a n (ap (λ (u : Serving). visitBy u (s .round .line) (s .round) x) t) refl
-          (subst (λ (g : ℕ). flowAt s g .queue ≡ [] → ⊥) (sym here) (T .waits)) (T .in-reach) (in-range s R .mark-in-range) (T .allowed-in-range)
-      by NoTurn t [] i =
-          let never : Idle ≡ Departure d = sym (ap₂ (λ (u : Serving) (l : List ℕ). visitBy u l (s .round) x .reply) t i) ∙ e in
-          let z : _≡_ {A = ℕ} 0 1 = cc in
-          absurd (omega arith)
-      by NoTurn t (f ∷ line) i =
-          let H = head-facts s R t (omega (arith, ap length i)) in
-          let here : whose (s .round) ≡ getD (s .round .line) 0 0 = ap (λ (u : Serving). whoseTurn u (s .round .line)) t in
-          let head : getD (s .round .line) 0 0 ≡ f = ap (λ (l : List ℕ). getD l 0 0) i in
-          let mark = started-mark (s .round .visits) in
-          leaves-if (turnOpened (roundStarted (s .round)) f (headAllowance (s .round) x)) (surplusCleared x) f (headAllowance (s .round) x) 0
-          (ap₂ (λ (u : Serving) (l : List ℕ). visitBy u l (s .round) x) t i) refl
-          (subst (λ (g : ℕ). flowAt s g .queue ≡ [] → ⊥) (sym here) (H .waits)) (omega (arith, head, H .in-reach)) mark
-          (omega (arith, mul-le-mul (R .flow-rules (whose (s .round)) .weight-in-range) (suc-le-suc mark)))
+    left : flowAt (departed s .state) f ≡ nextVisit s .flow
+    left = here-now s R (whose-in-reach s R) (nextVisit s .flow) (nextVisit s .round)

@@ -17,9 +17,10 @@ use Rattle.err.specs.Chain as SizeCall
 use Rattle.err.specs.declared.Sent.{Sent}
 use Rattle.err.specs.declared.Reply.{Reply}
 use Rattle.err.specs.declared.Reply.the-variants.{Departure, Idle, Refused}
+use Rattle.err.proofs.Chains.{chain-append}
 use Rattle.account.specs.Stretch.{Waiting, turnThen}
 use Rattle.account.specs.Stretch as SizeStretch
-use Rattle.account.proofs.Bursts.{chain-append, sent-append, turns-append, waiting-append}
+use Rattle.account.proofs.Bursts.{sent-append, turns-append, waiting-append}
 use Rattle.store.specs.Slots.{storeLength, outLimit}
 use Rattle.store.specs.Calls.{AfterDeparture, storeDepart, storeDepartRefusal}
 use Rattle.store.specs.Chain.{StoreCall, resetting, opening, offering, departing, lent, Packet, stateAfter, leaving, taken, sinceReset, History, next, chain, onSizes, allOnSizes}

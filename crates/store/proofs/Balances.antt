@@ -22,8 +22,10 @@ use Rattle.store.specs.Slots.{storeLength, nextSlotOf, written, held}
 use Rattle.store.specs.Calls.{AfterOffer, AfterDeparture, storeOffer, storeOfferRefusal, storeDepart, storeDepartRefusal}
 use Rattle.store.specs.Chain.{offering, departing, lent, back, Packet, stateAfter, storeAfter, accepting, leaving, putOut, taken, bytesOf, heldFrom, waitingBytes}
 use Rattle.store.proofs.SlotLaws.{held-length, written-length}
-use Rattle.store.proofs.CallLaws.{at-zero, offer-may, offer-state, offer-refused, offer-stores, departs, depart-refused, depart-made, sent-departure}
+use Rattle.store.proofs.CallLaws.{offer-may, offer-state, offer-refused, offer-stores, departs, depart-refused, depart-made, sent-departure}
 use Rattle.err.proofs.Departing.{Leaves, departed-leaves, idle-stays, never-refused}
+use Rattle.err.proofs.Choosing.{zero-chosen}
+use Rattle.err.proofs.Keeps.{new-closed}
 use Rattle.store.proofs.Lending.{lent-length, lent-whole, back-whole, back-untouched}
 use Rattle.store.proofs.WaitingLaws.{waiting-over-another-flow, waiting-with-one-more, bytes-of-own, bytes-of-another}
 
@@ -38,15 +40,7 @@ nobody s store g e = ap (heldFrom store g (flowAt s g .slot)) e
 
 -- A flow of a new scheduler has nothing waiting.
 pub new-waits-for-nothing : (store : List ℕ) (f : ℕ) → waitingBytes newScheduler store f ≡ []
-unfolding newScheduler
-new-waits-for-nothing store f = nobody newScheduler store f (ap (λ (x : Flow). x .queue) closed)
-  where
-    closed : getD (replicate flowLimit closedFlow) f closedFlow ≡ closedFlow
-    closed =
-        elim (decLt f flowLimit) [
-          | yes b ↦ getD-replicate flowLimit f closedFlow closedFlow b
-          | no b ↦ List·getD-eq-default (replicate flowLimit closedFlow) closedFlow {n = f} (omega (arith, length-replicate flowLimit closedFlow))
-        ]
+new-waits-for-nothing store f = nobody newScheduler store f (ap (λ (x : Flow). x .queue) (new-closed f))
 
 -- A call balances where what waited, with what it accepts, is what leaves, followed by what waits then.
 abbrev pub Balances : Scheduler → List ℕ → List Packet → List Packet → Scheduler → List ℕ → Type 0
@@ -162,7 +156,7 @@ module _ (s : Scheduler) (R : Rules s) (store : List ℕ) (whole : length store 
 
     state-joined : offerMade .state ≡ joinedIn s f (length packet)
     unfolding offered unlessRefused
-    state-joined = offer-state s f packet (lent n store) (offer-may s f packet (lent n store) e .0) ∙ at-zero (offerRefusal f (length packet) (flowAt s f)) _ s (offer-may s f packet (lent n store) e .1)
+    state-joined = offer-state s f packet (lent n store) (offer-may s f packet (lent n store) e .0) ∙ zero-chosen (offerRefusal f (length packet) (flowAt s f)) _ s (offer-may s f packet (lent n store) e .1)
 
     store-joined : back store n (offerMade .store) ≡ storedIn s store f packet
     store-joined =

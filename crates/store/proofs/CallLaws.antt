@@ -15,6 +15,7 @@ use Rattle.err.specs.declared.Answer.the-variants.{Done, Refused as AnswerRefus
 use Rattle.err.specs.declared.Reply.{Reply}
 use Rattle.err.specs.declared.Reply.the-variants.{Departure, Idle, Refused}
 use Rattle.err.specs.declared.Sent.{Sent}
+use Rattle.err.proofs.Choosing.{zero-chosen, positive-chosen, chosen-twice}
 use Rattle.store.specs.Slots.{storeLength, outLimit, nextSlotOf, written, held}
 use Rattle.store.specs.Calls.{storeOfferRefusal, storeOffer, storeDepartRefusal, storeDepart, sentOut}
 
@@ -26,18 +27,6 @@ done-number (suc n) e = let z : _≡_ {A = ℕ} 0 1 = cc in absurd (omega arith)
 pub refused-number : (n k : ℕ) → answerOf n ≡ AnswerRefused k → n ≡ 0 → ⊥
 refused-number zero k e h = let z : _≡_ {A = ℕ} 0 1 = cc in absurd (omega arith)
 refused-number (suc n) k e h = absurd (omega arith)
-
--- Where a number is 0 one choice is made, and otherwise the other.
-pub at-zero : {A : Type 0} (n : ℕ) (x y : A) → n ≡ 0 → ifZero n x y ≡ x
-at-zero n x y e = ap (λ (k : ℕ). ifZero k x y) e
-
-pub at-positive : {A : Type 0} (n : ℕ) (x y : A) → (n ≡ 0 → ⊥) → ifZero n x y ≡ y
-at-positive zero x y d = absurd (d refl)
-at-positive (suc n) x y d = refl
-
-chosen-twice : {A : Type 0} (n : ℕ) (x y : A) → ifZero n (ifZero n x y) y ≡ ifZero n x y
-chosen-twice zero x y = refl
-chosen-twice (suc n) x y = refl
 
 module _ (s : Scheduler) (f : ℕ) (packet store : List ℕ) where
   pub offer-wrong-store : (length store ≡ storeLength → ⊥) → storeOfferRefusal s f packet store ≡ 8
@@ -67,11 +56,11 @@ module _ (s : Scheduler) (f : ℕ) (packet store : List ℕ) where
   -- By the number of the refusal.
   pub offer-refused : (storeOfferRefusal s f packet store ≡ 0 → ⊥) → (storeOffer s f packet store .state ≡ s) × (storeOffer s f packet store .store ≡ store)
   unfolding storeOffer
-  offer-refused d = (at-positive (storeOfferRefusal s f packet store) _ s d, at-positive (storeOfferRefusal s f packet store) _ store d)
+  offer-refused d = (positive-chosen (storeOfferRefusal s f packet store) _ s d, positive-chosen (storeOfferRefusal s f packet store) _ store d)
 
   pub offer-stores : storeOfferRefusal s f packet store ≡ 0 → storeOffer s f packet store .store ≡ written store f (nextSlotOf (flowAt s f)) packet
   unfolding storeOffer
-  offer-stores e = at-zero (storeOfferRefusal s f packet store) (written store f (nextSlotOf (flowAt s f)) packet) store e
+  offer-stores e = zero-chosen (storeOfferRefusal s f packet store) (written store f (nextSlotOf (flowAt s f)) packet) store e
 
   pub offer-number : storeOffer s f packet store .answer ≡ answerOf (storeOfferRefusal s f packet store)
   unfolding storeOffer

@@ -9,34 +9,28 @@ use Rattle.err.specs.Model.{Scheduler, newScheduler}
 use Rattle.err.specs.Calls.{opened, offered, departed}
 use Rattle.err.specs.Rules.{Rules}
 use Rattle.err.proofs.Keeps.{new-keeps, opened-keeps, offered-keeps, departed-keeps}
-use Rattle.order.proofs.StateLaws.{seen}
+use Rattle.err.proofs.Choosing.{chosen-has}
+use Rattle.order.proofs.StateLaws.{seen-as}
 use Rattle.store.specs.Calls.{storeOffer, storeOfferRefusal, storeDepart, storeDepartRefusal}
 use Rattle.store.specs.Promised.{schedulerOf, SoundSite, siteOf, answeredAs, departedAs, NewGives, OpenGives, OfferGives, DepartGives}
 use Rattle.store.specs.declared.Site.{Site}
 use Rattle.store.specs.declared.SiteAnswered.{SiteAnswered}
 use Rattle.store.specs.declared.SiteDeparted.{SiteDeparted}
+use Rattle.store.proofs.SiteLaws.{rules-of-site}
 
 -- The store calls keep document 01's rules of the state, as the order layer's do.
-chosen-keeps : (n : ℕ) (s t : Scheduler) → Rules s → Rules t → Rules (ifZero n t s)
-chosen-keeps zero s t R T = T
-chosen-keeps (suc n) s t R T = R
-
 pub offer-keeps : (s : Scheduler) (f : ℕ) (packet store : List ℕ) → Rules s → Rules (storeOffer s f packet store .state)
 unfolding storeOffer
 offer-keeps s f packet store R =
-    chosen-keeps (storeOfferRefusal s f packet store) s (offered s f (length packet) .state) R (offered-keeps s f (length packet) R)
+    chosen-has Rules (storeOfferRefusal s f packet store) (offered s f (length packet) .state) s (λ e. offered-keeps s f (length packet) R) R
 
 pub depart-keeps : (s : Scheduler) (store out : List ℕ) → Rules s → Rules (storeDepart s store out .state)
 unfolding storeDepart
-depart-keeps s store out R = chosen-keeps (storeDepartRefusal store out) s (departed s .state) R (departed-keeps s R)
-
-rules-of : (site : Site) → SoundSite site → Rules (schedulerOf site)
-unfolding schedulerOf
-rules-of site S = S .rules
+depart-keeps s store out R = chosen-has Rules (storeDepartRefusal store out) (departed s .state) s (λ e. departed-keeps s R) R
 
 stands-for : (site : Site) (s : Scheduler) → Rules s → site ≡ siteOf s → schedulerOf site ≡ s
 unfolding schedulerOf siteOf
-stands-for site s R e = ap schedulerOf e ∙ seen s R
+stands-for site s R e = seen-as R (ap (λ (k : Site). k .order) e)
 
 pub new-followed : {r : Site} → NewGives r → schedulerOf r ≡ newScheduler
 new-followed {r} g = stands-for r newScheduler new-keeps (g .outcome)
@@ -46,16 +40,16 @@ module _ {site : Site} (S : SoundSite site) where
       → schedulerOf (r .site) ≡ opened (schedulerOf site) f weight .state
   unfolding answeredAs
   open-followed {f} {weight} {r} g =
-      stands-for (r .site) (opened (schedulerOf site) f weight .state) (opened-keeps (schedulerOf site) f weight (rules-of site S)) (ap (λ (a : SiteAnswered). a .site) (g .outcome))
+      stands-for (r .site) (opened (schedulerOf site) f weight .state) (opened-keeps (schedulerOf site) f weight (rules-of-site site S)) (ap (λ (a : SiteAnswered). a .site) (g .outcome))
 
   pub offer-followed : {f : ℕ} {packet store after : List ℕ} {r : SiteAnswered} → OfferGives site f packet store after r
       → schedulerOf (r .site) ≡ storeOffer (schedulerOf site) f packet store .state
   unfolding answeredAs
   offer-followed {f} {packet} {store} {after} {r} g =
-      stands-for (r .site) (storeOffer (schedulerOf site) f packet store .state) (offer-keeps (schedulerOf site) f packet store (rules-of site S)) (ap (λ (a : SiteAnswered). a .site) (g .outcome))
+      stands-for (r .site) (storeOffer (schedulerOf site) f packet store .state) (offer-keeps (schedulerOf site) f packet store (rules-of-site site S)) (ap (λ (a : SiteAnswered). a .site) (g .outcome))
 
   pub depart-followed : {store out after : List ℕ} {r : SiteDeparted} → DepartGives site store out after r
       → schedulerOf (r .site) ≡ storeDepart (schedulerOf site) store out .state
   unfolding departedAs
   depart-followed {store} {out} {after} {r} g =
-      stands-for (r .site) (storeDepart (schedulerOf site) store out .state) (depart-keeps (schedulerOf site) store out (rules-of site S)) (ap (λ (a : SiteDeparted). a .site) (g .outcome))
+      stands-for (r .site) (storeDepart (schedulerOf site) store out .state) (depart-keeps (schedulerOf site) store out (rules-of-site site S)) (ap (λ (a : SiteDeparted). a .site) (g .outcome))

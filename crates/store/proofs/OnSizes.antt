@@ -11,24 +11,17 @@ use Rattle.err.specs.Model.{Scheduler, flowAt, newScheduler}
 use Rattle.err.specs.Calls.{offered, departed, unlessRefused, offerRefusal}
 use Rattle.err.specs.Chain.{Call, after}
 use Rattle.err.specs.Chain as SizeCall
+use Rattle.err.proofs.Chains.{chain-append}
+use Rattle.err.proofs.Choosing.{chosen-twice}
 use Rattle.store.specs.Slots.{storeLength, outLimit}
 use Rattle.store.specs.Calls.{storeOffer, storeDepart}
 use Rattle.store.specs.Chain.{StoreCall, resetting, opening, offering, departing, lent, stateAfter, History, start, next, chain, onSizes, allOnSizes}
 use Rattle.store.proofs.Lending.{lent-length}
 
-chain-joined : (k : SizeCall.History) (a b : List Call) → SizeCall.chain k (a ++ b) ≡ SizeCall.chain (SizeCall.chain k a) b
-unfolding SizeCall.chain
-chain-joined k [] b = refl
-chain-joined k (c ∷ a) b = chain-joined (SizeCall.next k c) a b
-
 -- Where the order layer refuses an offer its state is as before, so it does not matter that the store layer asks first.
 offer-asked-first : (s : Scheduler) (f size : ℕ) → ifZero (offerRefusal f size (flowAt s f)) (offered s f size .state) s ≡ offered s f size .state
 unfolding offered unlessRefused
-offer-asked-first s f size = by (offerRefusal f size (flowAt s f)) _
-  where
-    by : (n : ℕ) (t : Scheduler) → ifZero n (ifZero n t s) s ≡ ifZero n t s
-    by zero t = refl
-    by (suc n) t = refl
+offer-asked-first s f size = chosen-twice (offerRefusal f size (flowAt s f)) _ s
 
 -- One call.
 pub on-sizes-once : (c : StoreCall) (store : List ℕ) (k : SizeCall.History) → stateAfter (k .state) store c ≡ SizeCall.chain k (onSizes c) .state
@@ -61,7 +54,7 @@ goes-on-sizes [] h k e = e
 goes-on-sizes (c ∷ calls) h k e =
     goes-on-sizes calls (next h c) (SizeCall.chain k (onSizes c))
     (ap (λ (s : Scheduler). stateAfter s (h .store) c) e ∙ on-sizes-once c (h .store) k)
-    ∙ ap (λ (g : SizeCall.History). g .state) (sym (chain-joined k (onSizes c) (allOnSizes calls)))
+    ∙ ap (λ (g : SizeCall.History). g .state) (sym (chain-append k (onSizes c) (allOnSizes calls)))
 
 -- After any store calls the scheduler is that of the order layer's chain of the same offers and departures.
 pub store-calls-are-calls-on-sizes : (store : List ℕ) (calls : List StoreCall)

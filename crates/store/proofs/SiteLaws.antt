@@ -9,7 +9,7 @@ use Rattle.err.specs.Model.{Flow, Scheduler, flowAt}
 use Rattle.err.specs.Choose.{ifZero}
 use Rattle.err.specs.Steps.{packetJoined, flowLined, nextSlot}
 use Rattle.err.specs.Calls.{put, offerRefusal, offered, unlessRefused, departed, answerOf}
-use Rattle.err.specs.Rules.{FlowRules}
+use Rattle.err.specs.Rules.{Rules}
 use Rattle.err.specs.declared.Answer.the-variants.{Done, Refused as AnswerRefused}
 use Rattle.err.specs.declared.Reply.{Reply}
 use Rattle.err.specs.declared.Reply.the-variants.{Departure, Refused}
@@ -24,17 +24,13 @@ use Rattle.order.specs.declared.Departed.{Departed}
 use Rattle.order.specs.declared.FlowCell.{FlowCell}
 use Rattle.order.specs.declared.State.{State}
 use Rattle.order.proofs.Encoded.{waiting-is}
-use Rattle.order.proofs.StateLaws.{cell-seen, offer-seen, depart-seen}
+use Rattle.order.proofs.StateLaws.{noCell, cell-seen, offer-seen, depart-seen}
 use Rattle.store.specs.Slots.{storeLength, outLimit, nextSlotOf, slotBefore, written, held}
 use Rattle.store.specs.Calls.{storeOffer, storeOfferRefusal, storeDepart, storeDepartRefusal}
 use Rattle.store.specs.Promised.{schedulerOf, SoundSite, siteOf, answeredAs, departedAs, NewGives, OpenGives, OfferGives, DepartGives}
 use Rattle.store.specs.declared.Site.{Site}
 use Rattle.store.proofs.CallLaws.{done-number, refused-number, offer-wrong-store, offer-right-store, offer-state, offer-answer, offer-refused, offer-stores, offer-number, depart-wrong-store, depart-short-out, depart-may, depart-refused, depart-made, sent-departure, sent-nothing}
 use Rattle.err.proofs.Departing.{Leaves, departed-leaves}
-
--- What reading past the end of the flows would give.
-abbrev pub noCell : FlowCell
-noCell = record { weight = 0; surplus = 0; slot = 0; waiting = 0; sizes = 0 }
 
 -- A slot before another is one of the flow's slots.
 pub before-in-reach : (k j : ℕ) → k ≡ slotBefore j → k < queueLimit
@@ -62,7 +58,7 @@ module _ (x : FlowCell) (h : FlowReady x) where
       around : (n : ℕ) → (n + (queueLimit - 1)) % queueLimit ≡ (n % queueLimit + (queueLimit - 1)) % queueLimit
       around n = omega arith
 
-pub new-law : (o : State) → order.GivesNew o → NewGives (record { order = o })
+pub new-law : (o : State) → order.NewGives o → NewGives (record { order = o })
 unfolding siteOf
 new-law o g = record { outcome = ap (λ (k : State). record { order = k }) (g .outcome); sound = g .sound }
 
@@ -89,9 +85,9 @@ module _ (site : Site) (S : SoundSite site) where
   unfolding schedulerOf
   cell-of f h = cell-seen (site .order) S f h
 
-  rules-of : (f : ℕ) → FlowRules (flowAt s f)
+  pub rules-of-site : Rules s
   unfolding schedulerOf
-  rules-of f = S .rules .flow-rules f
+  rules-of-site = S .rules
 
   module _ (f : ℕ) (packet store : List ℕ) where
     pub wrong-store-offer : (length store ≡ storeLength → ⊥) → OfferGives site f packet store store (record { site = site; answer = AnswerRefused 8 })
@@ -139,7 +135,7 @@ module _ (site : Site) (S : SoundSite site) where
       joined-is e =
           let h : f < flowLimit = accepted e .flow-in-range in
           cell-seen (a .state) (g .sound) f h
-          ∙ ap (λ (t : Scheduler). flowAt t f) (offer-seen (site .order) S f (length packet) a g)
+          ∙ ap (λ (t : Scheduler). flowAt t f) (offer-seen S g)
           ∙ ap (λ (n : ℕ). flowAt (ifZero n (put s f (packetJoined (flowAt s f) (length packet)) (flowLined (s .round) f (flowAt s f))) s) f)
           (done-number (offerRefusal f (length packet) (flowAt s f)) (sym answer-is ∙ e))
           ∙ at-put s f (packetJoined (flowAt s f) (length packet)) (flowLined (s .round) f (flowAt s f)) (omega (arith, S .rules .all-flows))
@@ -221,15 +217,15 @@ module _ (site : Site) (S : SoundSite site) where
         flow-in-reach = leaves .in-reach
 
         pub size-in-range : d .size ≤ sizeLimit
-        size-in-range = first-in-range (rw (leaves .first-in-queue) at (rules-of (d .flow) .sizes-in-range)) .1
+        size-in-range = first-in-range (rw (leaves .first-in-queue) at (rules-of-site .flow-rules (d .flow) .sizes-in-range)) .1
 
         slot-left : slotBefore (viewFlow (getD (a .state .flows) (d .flow) noCell) .slot) ≡ flowAt s (d .flow) .slot
         unfolding schedulerOf
         slot-left =
             ap (λ (x : Flow). slotBefore (x .slot))
-            (cell-seen (a .state) (g .sound) (d .flow) flow-in-reach ∙ ap (λ (t : Scheduler). flowAt t (d .flow)) (depart-seen (site .order) S a g))
+            (cell-seen (a .state) (g .sound) (d .flow) flow-in-reach ∙ ap (λ (t : Scheduler). flowAt t (d .flow)) (depart-seen S g))
             ∙ ap slotBefore (leaves .slot-moves-on)
-            ∙ before-next (flowAt s (d .flow) .slot) (rules-of (d .flow) .slot-in-range)
+            ∙ before-next (flowAt s (d .flow) .slot) (rules-of-site .flow-rules (d .flow) .slot-in-range)
 
         -- The bytes lay in the slot that was the flow's first.
         pub sent-departed : (k : ℕ) (after : List ℕ) → k ≡ slotBefore (viewFlow (getD (a .state .flows) (d .flow) noCell) .slot)

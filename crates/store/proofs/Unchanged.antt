@@ -14,16 +14,12 @@ use Rattle.store.specs.Promised.{schedulerOf, SoundSite, siteOf, answere
 use Rattle.store.specs.declared.Site.{Site}
 use Rattle.store.specs.declared.SiteAnswered.{SiteAnswered}
 use Rattle.store.specs.declared.SiteDeparted.{SiteDeparted}
-use Rattle.store.proofs.CallLaws.{at-positive, refused-number, offer-refused, offer-number, depart-refused, depart-made, sent-nothing}
+use Rattle.store.proofs.CallLaws.{refused-number, offer-refused, offer-number, depart-refused, depart-made, sent-nothing}
+use Rattle.err.proofs.Demand2.{refused-open-changes-nothing as refused-open-stays}
 use Rattle.err.proofs.Departing.{idle-stays, never-refused}
 use Rattle.store.proofs.SiteLaws.{site-form}
 
 -- Of the definitions' calls.
-open-refused-stays : (s : Scheduler) (f weight n : ℕ) → opened s f weight .reply ≡ AnswerRefused n → opened s f weight .state ≡ s
-unfolding opened unlessRefused
-open-refused-stays s f weight n e =
-    at-positive (openRefusal f weight (flowAt s f)) _ s (refused-number (openRefusal f weight (flowAt s f)) n e)
-
 offer-refused-stays : (s : Scheduler) (f : ℕ) (packet store : List ℕ) (n : ℕ) → storeOffer s f packet store .answer ≡ AnswerRefused n
     → (storeOffer s f packet store .state ≡ s) × (storeOffer s f packet store .store ≡ store)
 offer-refused-stays s f packet store n e =
@@ -58,7 +54,7 @@ module _ (site : Site) (S : SoundSite site) where
   unfolding answeredAs
   refused-open-changes-nothing {f} {weight} {n} {r} g e =
       as-it-was (r .site) (opened (schedulerOf site) f weight .state) (ap (λ (a : SiteAnswered). a .site) (g .outcome))
-      (open-refused-stays (schedulerOf site) f weight n (sym (ap (λ (a : SiteAnswered). a .answer) (g .outcome)) ∙ e))
+      (refused-open-stays (schedulerOf site) f weight n (sym (ap (λ (a : SiteAnswered). a .answer) (g .outcome)) ∙ e))
 
   pub refused-offer-changes-nothing : {f n : ℕ} {packet store after : List ℕ} {r : SiteAnswered} → OfferGives site f packet store after r
       → r .answer ≡ AnswerRefused n → (r .site ≡ site) × (after ≡ store)

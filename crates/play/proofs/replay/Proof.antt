@@ -2,12 +2,13 @@
 -- of the input. Assumes nothing.
 use borrow.Author.Needs.{needs}
 use Prim.Native.Nat.{_-_}
+use mathlib.Core.Path.{sym, _∙_}
 use native.Mathlib.Omega.{arith}
 use lib.ListN.{length}
 use Rattle.print.specs.Page.{page, put}
 use Rattle.print.proofs.PageLaws.{length-put}
 use Rattle.play.specs.Transcript.{transcript}
-use Rattle.play.proofs.PlayLaws.{alike, Plays, plays-begin, plays-end, plays-bad, may-run, less-left, plays-on}
+use Rattle.play.proofs.PlayLaws.{Plays, plays-begin, plays-end, plays-bad, may-run, less-left, plays-on}
 use Rattle.play.proofs.replay.Statement.{statement}
 use Rattle.play.proofs.replay.Tie as tie
 
@@ -38,7 +39,7 @@ bad-line-requires c κs = search needs
 returns : tie.Need-returns Inv-loop μ-loop
 returns c =
     let t = c .before .before .before .before .before .before .before in
-    plays-bad (t .before .loop .inv) (t .loop-test .taken) (alike (c .before .before .before .before .before .before .read .ensures) (c .before .before .before .before .enum-told .given .1)) (c .before .before .bad-line .ensures)
+    plays-bad (t .before .loop .inv) (t .loop-test .taken) (sym (c .before .before .before .before .before .before .read .ensures) ∙ c .before .before .before .before .enum-told .given .1) (c .before .before .bad-line .ensures)
 
 same-length : tie.Need-same-length Inv-loop μ-loop
 same-length c = length-put _ _ _ _ _ (returns c)
@@ -46,7 +47,7 @@ same-length c = length-put _ _ _ _ _ (returns c)
 run-requires : tie.Need-run-requires Inv-loop μ-loop
 run-requires c κs =
     let t = c .before .before .before .before .before in
-    may-run (t .before .loop .inv) (t .loop-test .taken) (alike (c .before .before .before .before .read .ensures) (c .before .before .event .given .1)) (t .before .before .before .before .before .pre)
+    may-run (t .before .loop .inv) (t .loop-test .taken) (sym (c .before .before .before .before .read .ensures) ∙ c .before .before .event .given .1) (t .before .before .before .before .before .pre)
 
 add-line : tie.Need-add-line Inv-loop μ-loop
 add-line c =
@@ -56,12 +57,12 @@ add-line c =
 loop-less : tie.Need-loop-less Inv-loop μ-loop
 loop-less c =
     let t = c .before .before .before .before .before .before .before .before in
-    less-left (t .before .loop .inv) (t .loop-test .taken) (alike (c .before .before .before .before .before .before .before .read .ensures) (c .before .before .before .before .before .event .given .1)) (t .before .before .before .before .before .pre)
+    less-left (t .before .loop .inv) (t .loop-test .taken) (sym (c .before .before .before .before .before .before .before .read .ensures) ∙ c .before .before .before .before .before .event .given .1) (t .before .before .before .before .before .pre)
 
 loop-again : tie.Need-loop-again Inv-loop μ-loop
 loop-again c =
     let t = c .before .before .before .before .before .before .before .before in
-    plays-on (t .before .loop .inv) (t .loop-test .taken) (alike (c .before .before .before .before .before .before .before .read .ensures) (c .before .before .before .before .before .event .given .1)) (t .before .before .before .before .before .pre) (c .before .before .run .ensures)
+    plays-on (t .before .loop .inv) (t .loop-test .taken) (sym (c .before .before .before .before .before .before .before .read .ensures) ∙ c .before .before .before .before .before .event .given .1) (t .before .before .before .before .before .pre) (c .before .before .run .ensures)
 
 returns-2 : tie.Need-returns-2 Inv-loop μ-loop
 returns-2 c = plays-end (c .before .loop .inv) (c .loop-test .left)

@@ -8,7 +8,7 @@ use Rattle.order.proofs.flow.first_left.Tie as tie
 
 add-t2 : tie.Need-add-t2
 unfolding viewFlow
-add-t2 c = omega (arith, c .before .pre .rules .slot-in-range)
+add-t2 c = omega (arith, c .before .pre .ready .rules .slot-in-range)
 
 sub-t4 : tie.Need-sub-t4
 sub-t4 c = search needs

@@ -1,7 +1,7 @@
 -- The flows behind the head move down.
 use borrow.Author.Needs.{needs}
 use native.Mathlib.Omega.{arith}
-use Rattle.order.proofs.RoundLaws.{opened-law}
+use Rattle.order.proofs.RoundLaws.{turn-opened-law}
 use Rattle.order.specs.Encoding.{held}
 use denote.Ref.{now}
 use Rattle.order.proofs.round.turn_opened.Statement.{statement}
@@ -14,7 +14,7 @@ sub-t8 : tie.Need-sub-t8
 sub-t8 c = search needs
 
 returns : tie.Need-returns
-returns c = opened-law (held (now (c .before .before .before .args .line)) (c .before .before .before .args .r)) (c .before .before .before .pre .0) (c .before .before .before .args .f) (c .before .before .before .args .allowed) (c .before .shift .last .0) (c .before .before .before .pre .1) (c .before .shift .ensures)
+returns c = turn-opened-law (held (now (c .before .before .before .args .line)) (c .before .before .before .args .r)) (c .before .before .before .pre .0) (c .before .before .before .args .f) (c .before .before .before .args .allowed) (c .before .shift .last .0) (c .before .before .before .pre .1) (c .before .shift .ensures)
 
 pub turn-opened-spec : {M : Type 1} → statement M
 turn-opened-spec = tie.close (tie.spec shift-requires sub-t8 returns)

@@ -1,7 +1,7 @@
 -- The round is started where due, the head leaves the line, and its turn is served.
 use mathlib.Core.Path.{_≡_, refl, sym, ap, _∙_}
 use lib.ListN.{getD}
-use Rattle.order.proofs.BeginLaws.{ready-of-first, now-ready, now-some, may-allow, may-serve, begun-law}
+use Rattle.order.proofs.BeginLaws.{now-ready, now-some, may-allow, may-serve, begun-law}
 use Rattle.order.specs.Encoding.{held}
 use denote.Ref.{now}
 use borrow.Author.Needs.{needs}
@@ -22,7 +22,7 @@ turn-opened-requires : tie.Need-turn-opened-requires
 turn-opened-requires c κs = (now-ready (held (now (c .before .before .before .before .args .line)) (c .before .before .before .before .args .r)) (c .before .before .before .before .args .x) (c .before .before .before .before .pre) (held (now (c .before .before .before .before .args .line)) (c .before .before .started .result)) (c .before .before .started .ensures (now (c .before .before .before .before .args .line)) (c .before .before .before .before .pre .round-ready)), now-some (held (now (c .before .before .before .before .args .line)) (c .before .before .before .before .args .r)) (c .before .before .before .before .args .x) (c .before .before .before .before .pre) (held (now (c .before .before .before .before .args .line)) (c .before .before .started .result)) (c .before .before .started .ensures (now (c .before .before .before .before .args .line)) (c .before .before .before .before .pre .round-ready)))
 
 cleared-requires : tie.Need-cleared-requires
-cleared-requires c κs = ready-of-first (held (now (c .before .before .before .before .before .before .args .line)) (c .before .before .before .before .before .before .args .r)) (c .before .before .before .before .before .before .args .x) (c .before .before .before .before .before .before .pre)
+cleared-requires c κs = c .before .before .before .before .before .before .pre .has-first .ready
 
 served-requires : tie.Need-served-requires
 served-requires c κs = may-serve (held (now (c .before .before .before .before .before .before .before .args .line)) (c .before .before .before .before .before .before .before .args .r)) (c .before .before .before .before .before .before .before .args .x) (c .before .before .before .before .before .before .before .pre) (held (now (c .before .before .before .before .before .before .before .args .line)) (c .before .before .before .before .before .started .result)) (c .before .before .before .before .before .started .ensures (now (c .before .before .before .before .before .before .before .args .line)) (c .before .before .before .before .before .before .before .pre .round-ready)) (c .before .before .before .before .allowance .result) (c .before .before .before .before .allowance .ensures) (held (c .before .before .turn-opened .last .0) (c .before .before .turn-opened .result)) (getD (now (c .before .before .before .before .before .before .before .args .line)) 0 0) (c .before .before .turn-opened .ensures) (c .cleared .result) (c .cleared .ensures)
