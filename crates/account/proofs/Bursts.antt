@@ -1,14 +1,11 @@
 -- Calls with every burst made one departure at a time give the same history, the same departures and the same turns, and whoever waits after every
 -- call still does. So the account holds of turns that begin or end within a burst too.
-use Prim.Native.Nat.{ℕ, zero, suc, _+_}
+use Prim.Native.Nat.{ℕ, zero, suc}
 use mathlib.Core.Path.{_≡_, refl, sym, ap, ap₂, _∙_, subst}
 use mathlib.Core.List.{List, [], _∷_, _++_, append-nil, append-assoc}
-use mathlib.Core.Bool.{Bool, true, false}
-use mathlib.Core.Logic.{_⊎_, inl, inr}
-use lib.ListN.{drop, replicate}
+use lib.ListN.{replicate}
 use Rattle.err.specs.Choose.{ifZero}
-use Rattle.err.specs.Model.{Flow, Round, Scheduler}
-use Rattle.err.specs.Steps.{firstLeft, firstSize, turnEnds, settled, served, visitBy, visit}
+use Rattle.err.specs.Model.{Scheduler}
 use Rattle.err.specs.Calls.{departed, departures, andThen, burst, burstMade, burstRefusal}
 use Rattle.err.specs.Replies.{sentBy}
 use Rattle.err.specs.Chain.{Call, resetting, opening, offering, departing, bursting, after, accepting, leaving, Packet, History, next, chain}
@@ -20,18 +17,17 @@ use Rattle.err.specs.declared.Serving.the-variants.{NoTurn, Turn}
 use Rattle.err.specs.declared.Count.{Count}
 use Rattle.err.specs.declared.Count.the-variants.{Refused as CountRefused}
 use Rattle.err.proofs.Departing.{SendsOrStays, sends, stays, sends-or-stays}
-use Rattle.err.proofs.Chains.{chain-append}
+use Rattle.err.proofs.Chains.{chain-append, departures-singly as singly-chained}
 use Rattle.account.specs.Stretch.{Waiting, WaitingAfterEvery, sentIn, turnThen, turnsOf, completing, turnsIn, singly, oneByOne}
 use Rattle.account.proofs.Runs.{waited-before-all}
 
--- ---- a departure call either sends a packet or changes nothing
+-- ---- where nothing was sent nothing will be
 
 abbrev SendsNothing : Reply → Type 0
 SendsNothing (Departure d) = ⊥
 SendsNothing Idle = Unit {0}
 SendsNothing (Refused k) = Unit {0}
 
--- Where nothing was sent nothing will be.
 record Still (n : ℕ) (s : Scheduler) : Type 0 where
   state-stays : departures n s .state ≡ s
   nothing-sent : departures n s .sent ≡ []
@@ -72,22 +68,13 @@ module _ (n : ℕ) (t : Scheduler) (accepted : List Packet) (left : List Sent) w
   afterOne reply = historyOf t (accepted ++ []) (left ++ sentBy reply)
 
   record Following (reply : Reply) (turn : Serving) : Type 0 where
-    then-history : chain (afterOne reply) (replicate n departing) ≡ historyOf (andThen reply t (departures n t) .state) accepted (left ++ andThen reply t (departures n t) .sent)
     then-sent : sentBy reply ++ sentIn (afterOne reply) (replicate n departing) ≡ andThen reply t (departures n t) .sent
     then-turns : turnThen reply turn [] ++ turnsIn (afterOne reply) (replicate n departing) ≡ turnThen reply turn (turnsOf n t)
-
-  -- A call that sent nothing is followed by such calls only.
-  nothing-follows : (reply : Reply) → sentBy reply ≡ [] → Singles n (afterOne reply) → Still n t
-      → chain (afterOne reply) (replicate n departing) ≡ historyOf t accepted (left ++ [])
-  nothing-follows reply e same still =
-      same .history-given ∙ (λ i. historyOf (still .state-stays i) (append-nil accepted i) (ap₂ (λ (a b : List Sent). left ++ a ++ b) e (still .nothing-sent) i))
-      ∙ ap (historyOf t accepted) (append-nil (left ++ []))
 
   following : (reply : Reply) (turn : Serving) → Singles n (afterOne reply) → (SendsNothing reply → Still n t) → Following reply turn
   unfolding andThen turnThen
   following (Departure d) turn same still =
       record {
-        then-history = same .history-given ∙ (λ i. historyOf (departures n t .state) (append-nil accepted i) (append-assoc left (d ∷ []) (departures n t .sent) i));
         then-sent = ap (λ (l : List Sent). d ∷ l) (same .sent-given);
         then-turns = go turn;
       }
@@ -97,24 +84,22 @@ module _ (n : ℕ) (t : Scheduler) (accepted : List Packet) (left : List Sent) w
       go (Turn f allowed sent) = same .turns-given
   following Idle turn same still =
       record {
-        then-history = nothing-follows Idle refl same (still tt);
         then-sent = same .sent-given ∙ still tt .nothing-sent;
         then-turns = same .turns-given ∙ still tt .no-turn-completed;
       }
   following (Refused k) turn same still =
       record {
-        then-history = nothing-follows (Refused k) refl same (still tt);
         then-sent = same .sent-given ∙ still tt .nothing-sent;
         then-turns = same .turns-given ∙ still tt .no-turn-completed;
       }
 
 departures-singly : (n : ℕ) (h : History) → Singles n h
 unfolding chain next after accepting leaving sentIn turnsIn completing departures turnsOf
-departures-singly zero h = record { history-given = ap (historyOf (h .state) (h .accepted)) (sym (append-nil (h .left))); sent-given = refl; turns-given = refl }
+departures-singly zero h = record { history-given = singly-chained zero h; sent-given = refl; turns-given = refl }
 departures-singly (suc n) h =
     let all = following n (departed (h .state) .state) (h .accepted) (h .left) (departed (h .state) .reply) (departed (h .state) .state .round .turn)
     (departures-singly n (next h departing)) (still-after n (h .state)) in
-    record { history-given = all .then-history; sent-given = all .then-sent; turns-given = all .then-turns }
+    record { history-given = singly-chained (suc n) h; sent-given = all .then-sent; turns-given = all .then-turns }
 
 -- Who waits after a burst waits after each of its departures.
 waits-singly : (n f : ℕ) (h : History) → Waiting (departures n (h .state) .state) f → WaitingAfterEvery f h (replicate n departing)

@@ -2,7 +2,7 @@
 -- The flows that stand form a circle: those that stand for the next round, then the flow whose turn is open, then those still to be visited in this
 -- round. A turn's end and a round's start leave the circle as it is; only a flow that joins or runs empty changes it.
 use Prim.Native.Nat.{ℕ, _+_, _*_, _-_, _≤_, _<_, max}
-use mathlib.Core.Path.{_≡_, sym, ap, _∙_, subst}
+use mathlib.Core.Path.{_≡_, ap, _∙_}
 use mathlib.Core.List.{List, [], _∷_, _++_}
 use mathlib.Core.Bool.{cond}
 use lib.ListN.{length, take, drop}

@@ -4,20 +4,17 @@ use mathlib.Core.Path.{_≡_, refl, sym, ap, _∙_}
 use mathlib.Core.List.{List, [], _∷_, _++_}
 use mathlib.Core.Bool.{Bool, true, false}
 use native.Mathlib.Omega.{arith}
-use native.Mathlib.Decide.{ℕ-discrete}
 use native.Mathlib.Nat.{le-max-left}
-use lib.ListN.{length, getD, set, take, drop}
+use lib.ListN.{length, take, drop}
 use lib.Seq.{take-append-le, drop-append-le, take-length, drop-length}
 use lib.Dec.{leb}
 use borrow.Author.Tests.{leb-true}
 use Rattle.err.specs.Limits.{flowLimit}
-use Rattle.err.specs.Choose.{ifEmpty}
-use Rattle.err.specs.Model.{Flow, Round, Scheduler, flowAt, closedFlow}
-use Rattle.err.specs.Steps.{roundStarted, turnOpened, surplusCleared, firstLeft, turnKept, raised, turnClosed, excessKept, turnEnds, nextSlot, Visit, settled, served, visitBy, visit, whose, allowance, firstSize}
-use Rattle.err.specs.Calls.{put, departed, nextVisit}
-use Rattle.err.specs.Rules.{Sizes, count, FlowRules, LineRules, TurnRules, RoundRules, Rules}
+use Rattle.err.specs.Model.{Flow, Round, Scheduler, flowAt}
+use Rattle.err.specs.Steps.{roundStarted, turnOpened, surplusCleared, firstLeft, turnKept, raised, turnClosed, excessKept, nextSlot, Visit, settled, served, visitBy, visit, allowance}
+use Rattle.err.specs.Calls.{put, departed}
+use Rattle.err.specs.Rules.{Sizes, count, LineRules, TurnRules, RoundRules, Rules}
 use Rattle.err.specs.Replies.{sentBy}
-use Rattle.err.specs.declared.Reply.{Reply}
 use Rattle.err.specs.declared.Reply.the-variants.{Departure}
 use Rattle.err.specs.declared.Serving.{Serving}
 use Rattle.err.specs.declared.Serving.the-variants.{NoTurn, Turn}
@@ -25,7 +22,7 @@ use Rattle.err.proofs.Counts.{count-head}
 use Rattle.err.proofs.Rounding.{raised-at-most}
 use Rattle.err.proofs.Line.{OnlyAt}
 use Rattle.err.proofs.Line.{round-starts as rules-when-a-round-starts}
-use Rattle.err.proofs.Keeps.{weighs}
+use Rattle.err.proofs.Keeps.{weighs, standing-waits}
 use Rattle.err.proofs.Flows.{at-others, put-back, waiting-in-reach, first-in-range, put-relates, here-now}
 use Rattle.err.proofs.Parts.{flowMadeOf, roundMadeOf, schedulerMadeOf}
 use Rattle.err.proofs.Departing.{departed-adds-none}
@@ -33,7 +30,7 @@ use Rattle.account.specs.Stretch.{turnThen, turnsOf}
 use Rattle.account.proofs.Circle.{Circle, circle, circleOf, round-starts, turn-opens, turn-stays-open, turn-ends, flow-runs-empty, Run, stands, moves, follows, Renewed, Waits, Backwards, departure}
 
 -- A flow that waits after a departure waited before it.
-pub waited-before : (s : Scheduler) (f : ℕ) → Waits (flowAt (departed s .state) f) → Waits (flowAt s f)
+waited-before : (s : Scheduler) (f : ℕ) → Waits (flowAt (departed s .state) f) → Waits (flowAt s f)
 waited-before s f w = omega (arith, departed-adds-none s f)
 
 -- A flow whose turn allows anything weighs something.
@@ -59,9 +56,9 @@ module _ (s : Scheduler) (R : Rules s) {g : ℕ} (reach : g < flowLimit) (y : Fl
       }
 
 -- A flow that stands has a packet waiting.
-standing-waits : {flow : ℕ → Flow} {out line : List ℕ} {mark running n g k : ℕ} → LineRules flow out line mark running n → count g (out ++ line) ≡ suc k
+counted-waits : {flow : ℕ → Flow} {out line : List ℕ} {mark running n g k : ℕ} → LineRules flow out line mark running n → count g (out ++ line) ≡ suc k
     → flow g .queue ≡ [] → ⊥
-standing-waits {g = g} L c e = absurd (omega (arith, L .stands-once g, c, ap (λ (q : List ℕ). ifEmpty {A = ℕ} q 0 1) e))
+counted-waits {flow} {g = g} L c = standing-waits (flow g) (omega (arith, L .stands-once g, c))
 
 -- From the circle c, what serving flow g gives is a run of moves, with what leaves and which turn is completed.
 abbrev Serves : ((ℕ → Flow) → Type 0) → Scheduler → ℕ → Circle → Visit → Type 0
@@ -155,7 +152,7 @@ module _ (Wanted : (ℕ → Flow) → Type 0) (back : Backwards Wanted) (s : Sch
       s′ = put s g (surplusCleared x) r
 
       waits : x .queue ≡ [] → ⊥
-      waits = standing-waits L (count-head g line)
+      waits = counted-waits L (count-head g line)
 
       reach : g < flowLimit
       reach = waiting-in-reach s g (R .all-flows) waits
@@ -207,7 +204,7 @@ module _ (Wanted : (ℕ → Flow) → Type 0) (back : Backwards Wanted) where
       T = R .round-rules .1
 
       waits : x .queue ≡ [] → ⊥
-      waits = standing-waits L (count-head g line)
+      waits = counted-waits L (count-head g line)
   departs flows [] visits mark running NoTurn R final =
       rw (put-back (schedulerMadeOf flows [] visits mark running NoTurn) 0) stands
   departs flows (g ∷ line) zero mark running NoTurn R final =

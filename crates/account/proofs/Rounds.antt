@@ -1,19 +1,16 @@
 -- In each round every flow that stands has one turn. So what completed turns allow two flows that wait, for each unit of their weights, differs only by
 -- what the round in which the run begins, and the one in which it ends, have still to allow the one and not the other.
-use Prim.Native.Nat.{ℕ, _+_, _*_, _≤_}
-use mathlib.Core.Path.{_≡_, refl, ap, _∙_}
-use mathlib.Core.List.{List, [], _∷_}
+use Prim.Native.Nat.{ℕ, _+_, _*_}
+use mathlib.Core.Path.{_≡_, ap, _∙_}
+use mathlib.Core.List.{List}
 use mathlib.Core.Bool.{Bool, true, false, cond}
 use native.Mathlib.Omega.{arith}
-use lib.ListN.{length}
 use lib.Dec.{eqb}
-use Rattle.err.specs.Choose.{ifEmpty}
-use Rattle.err.specs.Model.{Flow}
-use Rattle.err.specs.Rules.{count, activity}
+use Rattle.err.specs.Rules.{count}
 use Rattle.err.specs.declared.Sent.{Sent}
 use Rattle.err.proofs.Line.{waiting-is-active}
 use Rattle.account.specs.Stretch.{sumOf, onePlusMark}
-use Rattle.account.proofs.Circle.{Circle, Move, round-starts, turn-opens, turn-stays-open, turn-ends, flow-runs-empty, flow-joins, packet-joins, flow-opens, Run, stands, moves, follows, Waits, toCome}
+use Rattle.account.proofs.Circle.{Circle, Move, round-starts, turn-opens, turn-stays-open, turn-ends, flow-runs-empty, flow-joins, packet-joins, flow-opens, Run, stands, moves, follows, toCome}
 use Rattle.account.proofs.Sums.{sum-append}
 use Rattle.account.proofs.Order.{Both, run-keeps-both}
 

@@ -1,11 +1,10 @@
 -- A stretch of calls in which flows wait is a run of moves; and what holds of every history that calls give.
-use Prim.Native.Nat.{ℕ, zero, suc, _-_}
+use Prim.Native.Nat.{ℕ, _-_}
 use mathlib.Core.Path.{_≡_, refl, sym, ap, _∙_, subst}
 use mathlib.Core.List.{List, [], _∷_, _++_, append-nil, append-assoc}
 use native.Mathlib.Omega.{arith}
-use lib.ListN.{length, getD, replicate}
-use Rattle.err.specs.Limits.{flowLimit}
-use Rattle.err.specs.Model.{Flow, Scheduler, flowAt, closedFlow, newScheduler}
+use lib.ListN.{length}
+use Rattle.err.specs.Model.{Flow, Scheduler, flowAt, newScheduler}
 use Rattle.err.specs.Rules.{Rules}
 use Rattle.err.specs.Chain.{Call, resetting, opening, offering, departing, bursting, after, leaving, sinceReset, History, next, chain}
 use Rattle.err.specs.declared.Sent.{Sent}

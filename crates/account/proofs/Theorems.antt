@@ -28,13 +28,13 @@ use Rattle.account.proofs.Stretches.{stretch-runs, left-grows, Small, s
 
 module _ (h : History) (calls : List Call) (R : Rules (h .state)) where
   -- The account at any moment, in a turn of the flow or between its turns.
-  pub account-from : (f : ℕ) → WaitingAfterEvery f h calls
+  account-from : (f : ℕ) → WaitingAfterEvery f h calls
       → sumOf f bytes (sentIn h calls) + onAccount (circleOf (h .state)) f
       ≡ onAccount (circleOf (chain h calls .state)) f + flowAt (h .state) f .weight * sumOf f onePlusMark (turnsIn h calls)
   account-from f waits = run-balances f (λ flow w. w .0) (stretch-runs f f h calls R waits waits)
 
   -- The exact bound, where marks and surpluses are at most k and packets in the stretch at most one more.
-  pub bound-from : (k i j : ℕ) → (i ≡ j → ⊥) → Within k (circleOf (h .state)) → largest (sentIn h calls) ≤ suc k
+  bound-from : (k i j : ℕ) → (i ≡ j → ⊥) → Within k (circleOf (h .state)) → largest (sentIn h calls) ≤ suc k
       → Waiting (h .state) i × WaitingAfterEvery i h calls → Waiting (h .state) j × WaitingAfterEvery j h calls
       → DifferByAtMost (flowAt (h .state) j .weight * sumOf i bytes (sentIn h calls)) (flowAt (h .state) i .weight * sumOf j bytes (sentIn h calls))
       (suc k * (flowAt (h .state) i .weight * flowAt (h .state) j .weight) + k * (flowAt (h .state) i .weight + flowAt (h .state) j .weight))

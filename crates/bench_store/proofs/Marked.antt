@@ -2,7 +2,6 @@
 use Prim.Native.Nat.{ℕ, _≤_}
 use mathlib.Core.Path.{_≡_, sym}
 use mathlib.Core.List.{List}
-use native.Mathlib.Omega.{arith}
 use lib.ListN.{length, take, set, length-set}
 use lib.Seq.{length-take-le}
 

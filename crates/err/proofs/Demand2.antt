@@ -1,28 +1,26 @@
 -- Demand 2 on sizes, over any list of calls from a new scheduler.
-use Prim.Native.Nat.{ℕ, zero, suc, _+_, _≤_, _<_}
-use mathlib.Core.Path.{_≡_, refl, sym, ap, ap₂, _∙_, subst}
-use mathlib.Core.List.{List, [], _∷_, _++_, map, append-nil, append-assoc, map-append}
+use Prim.Native.Nat.{ℕ, zero, suc}
+use mathlib.Core.Path.{_≡_, refl, sym, ap, _∙_}
+use mathlib.Core.List.{List, [], _∷_, _++_, append-nil, append-assoc, map-append}
 use mathlib.Core.Logic.{_↔_}
 use native.Mathlib.Omega.{arith}
 use lib.ListN.{length, replicate}
-use Rattle.err.specs.Choose.{ifEmpty, ifZero}
-use Rattle.err.specs.Model.{Flow, Scheduler, flowAt, newScheduler}
-use Rattle.err.specs.Steps.{Visit, whose}
-use Rattle.err.specs.Calls.{Outcome, Departures, Burst, opened, offered, departed, departures, andThen, burst, burstMade, unlessRefused, openRefusal, offerRefusal, burstRefusal, answerOf, nextVisit}
-use Rattle.err.specs.Rules.{count, activity, Rules, RoundRules}
+use Rattle.err.specs.Choose.{ifZero}
+use Rattle.err.specs.Model.{Flow, Scheduler, flowAt}
+use Rattle.err.specs.Steps.{whose}
+use Rattle.err.specs.Calls.{opened, offered, departed, departures, burst, burstMade, unlessRefused, openRefusal, offerRefusal, burstRefusal}
+use Rattle.err.specs.Rules.{Rules}
 use Rattle.err.specs.Replies.{sentBy}
-use Rattle.err.specs.Chain.{Call, resetting, opening, offering, departing, bursting, after, accepting, leaving, sinceReset, History, start, next, chain, Packet, sizesOf, packetsOf}
-use Rattle.err.specs.declared.Answer.{Answer}
-use Rattle.err.specs.declared.Answer.the-variants.{Done, Refused as AnswerRefused}
+use Rattle.err.specs.Chain.{Call, resetting, opening, offering, departing, bursting, after, accepting, leaving, History, start, next, chain, Packet, sizesOf, packetsOf}
+use Rattle.err.specs.declared.Answer.the-variants.{Refused as AnswerRefused}
 use Rattle.err.specs.declared.Count.{Count}
-use Rattle.err.specs.declared.Count.the-variants.{Made, Refused as CountRefused}
-use Rattle.err.specs.declared.Reply.{Reply}
-use Rattle.err.specs.declared.Reply.the-variants.{Departure, Idle, Refused}
+use Rattle.err.specs.declared.Count.the-variants.{Refused as CountRefused}
+use Rattle.err.specs.declared.Reply.the-variants.{Departure, Idle}
 use Rattle.err.specs.declared.Sent.{Sent}
-use Rattle.err.proofs.Keeps.{new-closed, new-keeps, every-call-keeps, departed-keeps}
-use Rattle.err.proofs.Departing.{departed-leaves, SendsOrStays, sends, stays, sends-or-stays, idle-stays, never-refused}
-use Rattle.err.proofs.Chains.{chain-keeps}
-use Rattle.err.proofs.Queues.{sizes-append, departed-queue, departures-queue, opened-queue, offered-queue, its-own}
+use Rattle.err.proofs.Keeps.{new-closed, new-keeps, every-call-keeps}
+use Rattle.err.proofs.Departing.{departed-leaves, SendsOrStays, sends, stays, sends-or-stays, idle-stays}
+use Rattle.err.proofs.Chains.{chain-keeps, departures-singly}
+use Rattle.err.proofs.Queues.{sizes-append, departed-queue, departures-queue, opened-queue, offered-queue}
 use Rattle.err.proofs.Standing.{nobody-waits}
 
 -- Every state that calls give keeps document 01's rules.
@@ -127,57 +125,8 @@ refused-burst-changes-nothing s n list k e = by (burstRefusal n list) (CountRefu
     by zero c i = let z : _≡_ {A = ℕ} 0 1 = cc in absurd (omega arith)
     by (suc m) c i = (refl, refl)
 
--- One single departure call in a history.
-one-single : (h : History)
-    → next h departing ≡ record { state = departed (h .state) .state; accepted = h .accepted; left = h .left ++ sentBy (departed (h .state) .reply) }
-unfolding next after accepting leaving
-one-single h =
-    ap (λ (l : List Packet). record { state = departed (h .state) .state; accepted = l; left = h .left ++ sentBy (departed (h .state) .reply) })
-    (append-nil (h .accepted))
-
-idle-single : (h : History) → departed (h .state) .reply ≡ Idle → Rules (h .state) → next h departing ≡ h
-idle-single h e R =
-    one-single h
-    ∙ ap₂ (λ (t : Scheduler) (l : List Sent). record { state = t; accepted = h .accepted; left = l })
-    (idle-stays (h .state) e)
-    (ap (λ (r : Reply). h .left ++ sentBy r) e ∙ append-nil (h .left))
-
-idle-from-then : (n : ℕ) (h : History) → departed (h .state) .reply ≡ Idle → Rules (h .state) → chain h (replicate n departing) ≡ h
-unfolding chain
-idle-from-then zero h e R = refl
-idle-from-then (suc n) h e R = ap (λ (k : History). chain k (replicate n departing)) (idle-single h e R) ∙ idle-from-then n h e R
-
 -- N single calls make the departures that a burst of N makes, and leave its state: those after the first idle are idle too.
 pub burst-as-single-calls : (n : ℕ) (h : History) → Rules (h .state)
     → chain h (replicate n departing)
     ≡ record { state = departures n (h .state) .state; accepted = h .accepted; left = h .left ++ departures n (h .state) .sent }
-unfolding chain departures andThen
-burst-as-single-calls zero h R = ap (λ (l : List Sent). record { state = h .state; accepted = h .accepted; left = l }) (sym (append-nil (h .left)))
-burst-as-single-calls (suc n) h R =
-    by (departed (h .state) .reply) refl
-    (burst-as-single-calls n (record { state = t; accepted = h .accepted; left = h .left ++ sentBy (departed (h .state) .reply) }) (departed-keeps (h .state) R))
-  where
-    t : Scheduler
-    t = departed (h .state) .state
-
-    by : (reply : Reply) → departed (h .state) .reply ≡ reply
-        → chain (record { state = t; accepted = h .accepted; left = h .left ++ sentBy (departed (h .state) .reply) }) (replicate n departing)
-        ≡ record { state = departures n t .state; accepted = h .accepted; left = h .left ++ sentBy (departed (h .state) .reply) ++ departures n t .sent }
-        → chain (next h departing) (replicate n departing)
-        ≡ record {
-          state = andThen reply t (departures n t) .state;
-          accepted = h .accepted;
-          left = h .left ++ andThen reply t (departures n t) .sent;
-        }
-    by (Departure d) e ih =
-        ap (λ (k : History). chain k (replicate n departing)) (one-single h)
-        ∙ ih
-        ∙ ap (λ (l : List Sent). record { state = departures n t .state; accepted = h .accepted; left = l })
-        (append-assoc (h .left) (sentBy (departed (h .state) .reply)) (departures n t .sent)
-        ∙ ap (λ (r : Reply). h .left ++ (sentBy r ++ departures n t .sent)) e)
-    by Idle e ih =
-        idle-from-then (suc n) h e R
-        ∙ ap₂ (λ (k : Scheduler) (l : List Sent). record { state = k; accepted = h .accepted; left = l })
-        (sym (idle-stays (h .state) e))
-        (sym (append-nil (h .left)))
-    by (Refused k) e ih = absurd (never-refused (h .state) k e)
+burst-as-single-calls n h R = departures-singly n h

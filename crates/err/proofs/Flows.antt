@@ -1,5 +1,5 @@
 -- What putting one flow in place does to the others, and which changes of a flow keep its rules.
-use Prim.Native.Nat.{ℕ, zero, suc, _+_, _*_, _-_, _%_, _≤_, _<_}
+use Prim.Native.Nat.{ℕ, zero, suc, _+_, _%_, _≤_, _<_}
 use mathlib.Core.Path.{_≡_, refl, sym, ap, _∙_, subst}
 use mathlib.Core.List.{List, [], _∷_, _++_}
 use native.Mathlib.Omega.{arith}
@@ -8,7 +8,7 @@ use lib.ListN.{length, getD, set, drop, length-append, length-set, List·getD-eq
 use lib.Seq.{getD-set-same, getD-set-other, set-getD}
 use Rattle.err.specs.Limits.{flowLimit, weightLimit, sizeLimit, queueLimit, markLimit}
 use Rattle.err.specs.Model.{Flow, Round, Scheduler, flowAt, closedFlow}
-use Rattle.err.specs.Steps.{packetJoined, surplusCleared, firstLeft, excessKept}
+use Rattle.err.specs.Steps.{packetJoined, surplusCleared}
 use Rattle.err.specs.Calls.{put, openFlow}
 use Rattle.err.specs.Rules.{Sizes, none, one, FlowRules, RoundRules, Rules, activity}
 use Rattle.err.proofs.Line.{OnlyAt, everywhere}
@@ -28,17 +28,20 @@ pub put-back : (s : Scheduler) (f : ℕ) → put s f (flowAt s f) (s .round) ≡
 unfolding put
 put-back s f = ap (λ (l : List Flow). record { flows = l; round = s .round }) (set-getD (s .flows) f closedFlow)
 
+-- A number that no flow has stands for a closed flow.
+pub beyond-closed : (s : Scheduler) → length (s .flows) ≡ flowLimit → (g : ℕ) → flowLimit ≤ g → flowAt s g ≡ closedFlow
+beyond-closed s e g h = List·getD-eq-default (s .flows) closedFlow {n = g} (omega arith)
+
 -- A flow with a packet waiting has a number below the limit.
 pub waiting-in-reach : (s : Scheduler) (f : ℕ) → length (s .flows) ≡ flowLimit → (flowAt s f .queue ≡ [] → ⊥) → f < flowLimit
 waiting-in-reach s f e h =
     elim (decLt f flowLimit) [
       | yes b ↦ b
-      | no b ↦ absurd (h (ap (λ (x : Flow). x .queue) (List·getD-eq-default (s .flows) closedFlow {n = f} (omega arith))))
+      | no b ↦ absurd (h (ap (λ (x : Flow). x .queue) (beyond-closed s e f (omega arith))))
     ]
 
--- A number that no flow has stands for a flow that is not active.
 pub beyond-not-active : (s : Scheduler) → length (s .flows) ≡ flowLimit → (g : ℕ) → flowLimit ≤ g → activity (flowAt s g) ≡ 0
-beyond-not-active s e g h = ap activity (List·getD-eq-default (s .flows) closedFlow {n = g} (omega arith))
+beyond-not-active s e g h = ap activity (beyond-closed s e g h)
 
 -- What relates a flow to what is put in its place relates every flow to what it then is.
 pub put-relates : (R : Flow → Flow → Type 0) → ((x : Flow) → R x x) → (flows : List Flow) (g : ℕ) (y : Flow) → R (getD flows g closedFlow) y

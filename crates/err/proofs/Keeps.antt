@@ -1,17 +1,17 @@
 -- Every call keeps document 01's rules of the state.
 use Prim.Native.Nat.{ℕ, zero, suc, _+_, _*_, _-_, _≤_, _<_}
 use mathlib.Core.Path.{_≡_, refl, sym, ap, _∙_, subst}
-use mathlib.Core.List.{List, [], _∷_, _++_}
-use mathlib.Core.Bool.{Bool, true, false, cond}
+use mathlib.Core.List.{List, [], _∷_}
+use mathlib.Core.Bool.{Bool, true, false}
 use native.Mathlib.Omega.{arith}
-use lib.ListN.{length, getD, take, replicate, getD-replicate, length-replicate, List·getD-eq-default}
-use native.Mathlib.Decide.{decLt, ℕ-discrete}
+use lib.ListN.{length, take, replicate, getD-replicate, length-replicate, List·getD-eq-default}
+use native.Mathlib.Decide.{decLt}
 use lib.Dec.{leb}
-use borrow.Author.Tests.{leb-true, leb-false, ltb-false, eqb-false}
-use Rattle.err.specs.Limits.{flowLimit, weightLimit, sizeLimit, queueLimit, markLimit}
-use Rattle.err.specs.Model.{Flow, Round, Scheduler, flowAt, closedFlow, newScheduler, newRound}
-use Rattle.err.specs.Steps.{packetJoined, flowLined, roundStarted, turnOpened, surplusCleared, firstLeft, turnKept, raised, turnClosed, excessKept, settled, served, visitBy, visit, whose, allowance}
-use Rattle.err.specs.Calls.{put, openFlow, opened, offered, departed, departures, andThen, burst, burstMade, unlessRefused, openRefusal, offerRefusal, burstRefusal, nextVisit}
+use borrow.Author.Tests.{leb-true, leb-false}
+use Rattle.err.specs.Limits.{flowLimit, markLimit}
+use Rattle.err.specs.Model.{Flow, Round, Scheduler, flowAt, closedFlow, newScheduler}
+use Rattle.err.specs.Steps.{packetJoined, flowLined, roundStarted, turnOpened, surplusCleared, firstLeft, turnKept, turnClosed, excessKept, settled, served, visitBy, visit, allowance}
+use Rattle.err.specs.Calls.{put, openFlow, opened, offered, departed, departures, andThen, burst, burstMade, unlessRefused, openRefusal, offerRefusal, burstRefusal}
 use Rattle.err.specs.Rules.{count, activity, FlowRules, LineRules, TurnRules, RoundRules, Rules}
 use Rattle.err.specs.declared.Reply.{Reply}
 use Rattle.err.specs.declared.Reply.the-variants.{Departure, Idle, Refused}
@@ -40,7 +40,7 @@ weighs x R waits = go (x .weight) refl
 -- Steps 3 to 6: serving the flow f of an open turn keeps the rules. `flow` has f as it is served, `flow′` as serving leaves it.
 module _ {flow flow′ : ℕ → Flow} (r : Round) (f a n w σ k : ℕ) (only : OnlyAt f flow flow′)
     (L : LineRules flow (f ∷ []) (r .line) (r .mark) (r .running) (r .visits - 1)) where
-  pub served-keeps : (q : List ℕ) → FlowRules (flowMadeOf w σ k q) → flow f ≡ flowMadeOf w σ k q → flow′ f ≡ served r (flowMadeOf w σ k q) f a n .flow
+  served-keeps : (q : List ℕ) → FlowRules (flowMadeOf w σ k q) → flow f ≡ flowMadeOf w σ k q → flow′ f ≡ served r (flowMadeOf w σ k q) f a n .flow
       → TurnRules (flowMadeOf w σ k q) (r .visits) (r .mark) a n → (q ≡ [] → ⊥)
       → FlowRules (served r (flowMadeOf w σ k q) f a n .flow)
       × RoundRules flow′ (served r (flowMadeOf w σ k q) f a n .round) (served r (flowMadeOf w σ k q) f a n .round .turn)
@@ -136,14 +136,14 @@ module _ {flow flow′ : ℕ → Flow} {f : ℕ} (only : OnlyAt f flow flow′) 
       only g (λ e. absurd (omega (arith, L .stands-once g, count-head g (r .line), ap (λ (h : ℕ). activity (flow h)) e)))
 
   -- Opening a flow that was not open.
-  pub opening-keeps : (turn : Serving) → activity (flow f) ≡ 0 → activity (flow′ f) ≡ 0 → RoundRules flow r turn → RoundRules flow′ r turn
+  opening-keeps : (turn : Serving) → activity (flow f) ≡ 0 → activity (flow′ f) ≡ 0 → RoundRules flow r turn → RoundRules flow′ r turn
   unfolding RoundRules
   opening-keeps NoTurn was is R = not-standing only was is R
   opening-keeps (Turn g a n) was is R =
       (not-standing only was is (R .0), rw (other-turn (R .0) was) (R .1), R .2)
 
   -- Step 1.
-  pub offering-keeps : (turn : Serving) (w σ k : ℕ) (q : List ℕ) (size : ℕ) → flow f ≡ flowMadeOf w σ k q → flow′ f ≡ packetJoined (flowMadeOf w σ k q) size
+  offering-keeps : (turn : Serving) (w σ k : ℕ) (q : List ℕ) (size : ℕ) → flow f ≡ flowMadeOf w σ k q → flow′ f ≡ packetJoined (flowMadeOf w σ k q) size
       → RoundRules flow r turn → RoundRules flow′ (flowLined r f (flowMadeOf w σ k q)) turn
   unfolding RoundRules packetJoined flowLined
   offering-keeps NoTurn w σ k [] size here there R = joins-the-line only (ap activity here) (ap (λ (y : Flow). y .surplus) there) (ap activity there) R

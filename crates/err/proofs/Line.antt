@@ -1,6 +1,6 @@
 -- What each of document 01's steps does to the rules of the line. `flow` and `flow′` are the flows before and after; they differ at f alone.
-use Prim.Native.Nat.{ℕ, zero, suc, _+_, _*_, _-_, _≤_, _<_}
-use mathlib.Core.Path.{_≡_, refl, sym, ap, _∙_, subst}
+use Prim.Native.Nat.{ℕ, suc, _+_, _*_, _≤_, _<_}
+use mathlib.Core.Path.{_≡_, sym, _∙_, subst}
 use mathlib.Core.List.{List, [], _∷_, _++_}
 use native.Mathlib.Omega.{arith}
 use native.Mathlib.Decide.{ℕ-discrete}
@@ -9,7 +9,7 @@ use lib.ListN.{length, take, drop, length-append}
 use lib.Seq.{take-append-le, drop-append-le, take-length, drop-length}
 use Rattle.err.specs.Limits.{flowLimit, markLimit}
 use Rattle.err.specs.Choose.{ifEmpty}
-use Rattle.err.specs.Model.{Flow, Round}
+use Rattle.err.specs.Model.{Flow}
 use Rattle.err.specs.Rules.{count, activity, LineRules}
 use Rattle.err.proofs.Counts.{count-append, count-self, count-other, count-head, count-behind, count-parts, few-stand, fewer-stand}
 use Rattle.err.proofs.Choosing.{waiting-by-count}

@@ -1,28 +1,22 @@
 -- What each call does to a flow's queue: what waited and what is accepted now is what leaves now followed by what waits after.
-use Prim.Native.Nat.{ℕ, zero, suc, _+_, _-_, _≤_, _<_}
-use mathlib.Core.Path.{_≡_, refl, sym, ap, ap₂, _∙_, subst}
-use mathlib.Core.List.{List, [], _∷_, _++_, map, append-nil, append-assoc, map-append}
-use mathlib.Core.Bool.{Bool, true, false, cond}
+use Prim.Native.Nat.{ℕ, zero, suc}
+use mathlib.Core.Path.{_≡_, refl, sym, ap, ap₂, _∙_}
+use mathlib.Core.List.{List, [], _∷_, _++_, append-nil, append-assoc}
+use mathlib.Core.Bool.{Bool, cond}
 use native.Mathlib.Omega.{arith}
-use native.Mathlib.Decide.{ℕ-discrete}
-use lib.ListN.{length, getD, drop}
-use lib.Dec.{leb, eqb}
+use lib.Dec.{eqb}
 use borrow.Author.Tests.{eq-eqb, ne-eqb}
-use Rattle.err.specs.Limits.{flowLimit}
-use Rattle.err.specs.Choose.{ifEmpty, ifZero}
-use Rattle.err.specs.Model.{Flow, Round, Scheduler, flowAt, closedFlow, newScheduler}
-use Rattle.err.specs.Steps.{Visit, packetJoined, flowLined, roundStarted, turnOpened, surplusCleared, firstLeft, turnEnds, settled, served, visitBy, visit, whose, whoseTurn, excessKept, headAllowance}
-use Rattle.err.specs.Calls.{put, openFlow, opened, offered, departed, departures, andThen, burst, burstMade, unlessRefused, openRefusal, offerRefusal, burstRefusal, nextVisit}
+use Rattle.err.specs.Choose.{ifZero}
+use Rattle.err.specs.Model.{Flow, Round, Scheduler, flowAt}
+use Rattle.err.specs.Steps.{packetJoined, flowLined}
+use Rattle.err.specs.Calls.{put, openFlow, opened, offered, departed, departures, andThen, unlessRefused, openRefusal, offerRefusal}
 use Rattle.err.specs.Rules.{Rules}
 use Rattle.err.specs.Replies.{sentBy}
-use Rattle.err.specs.Chain.{Call, resetting, opening, offering, departing, bursting, after, accepting, leaving, Packet, sizesOf, packetsOf}
+use Rattle.err.specs.Chain.{offering, accepting, Packet, sizesOf, packetsOf}
 use Rattle.err.specs.declared.Reply.{Reply}
 use Rattle.err.specs.declared.Reply.the-variants.{Departure, Idle, Refused}
-use Rattle.err.specs.declared.Sent.{Sent}
-use Rattle.err.specs.declared.Serving.{Serving}
-use Rattle.err.specs.declared.Serving.the-variants.{NoTurn, Turn}
-use Rattle.err.proofs.Refusals.{MayOpen, may-open, MayOffer, may-offer}
-use Rattle.err.proofs.Flows.{at-put, at-others, put-back}
+use Rattle.err.proofs.Refusals.{MayOpen, may-open, may-offer}
+use Rattle.err.proofs.Flows.{at-put, at-others}
 use Rattle.err.proofs.Keeps.{departed-keeps}
 use Rattle.err.proofs.Departing.{Leaves, departed-leaves, SendsOrStays, sends, stays, sends-or-stays}
 use Rattle.err.proofs.Line.{same-or-other}
@@ -33,11 +27,11 @@ sizes-append f [] b = refl
 sizes-append f (p ∷ a) b = ap (λ (l : List ℕ). cond (eqb (p .flow) f) (p .size ∷ []) [] ++ l) (sizes-append f a b) ∙ sym (append-assoc (cond (eqb (p .flow) f) (p .size ∷ []) []) (sizesOf f a) (sizesOf f b))
 
 -- One packet of flow f, asked for by its own flow and by another.
-pub its-own : (f size : ℕ) → sizesOf f (record { flow = f; size = size } ∷ []) ≡ size ∷ []
+its-own : (f size : ℕ) → sizesOf f (record { flow = f; size = size } ∷ []) ≡ size ∷ []
 unfolding sizesOf
 its-own f size = ap (λ (b : Bool). cond b (size ∷ []) [] ++ []) (eq-eqb f f refl)
 
-pub anothers : (g f size : ℕ) → (g ≡ f → ⊥) → sizesOf g (record { flow = f; size = size } ∷ []) ≡ []
+anothers : (g f size : ℕ) → (g ≡ f → ⊥) → sizesOf g (record { flow = f; size = size } ∷ []) ≡ []
 unfolding sizesOf
 anothers g f size d = ap (λ (b : Bool). cond b (size ∷ []) [] ++ []) (ne-eqb f g (λ e. d (sym e)))
 

@@ -1,12 +1,12 @@
 -- Rounding up covers what it rounds, and no more than is needed for that.
-use Prim.Native.Nat.{ℕ, zero, suc, _+_, _*_, _-_, _/_, _%_, _≤_, _<_, max}
-use mathlib.Core.Path.{_≡_, refl, sym, ap, _∙_}
+use Prim.Native.Nat.{ℕ, suc, _+_, _*_, _-_, _≤_, _<_, max}
+use mathlib.Core.Path.{_≡_, refl}
 use mathlib.Core.Bool.{Bool, true, false, cond}
 use native.Mathlib.Omega.{arith}
 use native.Mathlib.Decide.{decLt}
 use native.Mathlib.Nat.{div-add-mod', mod-lt, div-lt-iff-lt-mul, le-mul-of-pos-right, le-max-left, le-max-right, max-le, mul-le-mul-left}
 use lib.Dec.{leb}
-use borrow.Author.Tests.{leb-true, le-leb, lt-leb}
+use borrow.Author.Tests.{le-leb}
 use Rattle.err.specs.Steps.{roundedUp, raised}
 
 pub rounded-up-covers : (x w : ℕ) → 1 ≤ w → x ≤ w * roundedUp x w

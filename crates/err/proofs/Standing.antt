@@ -1,16 +1,16 @@
 -- What the rules tell of the flow whose turn it is, and of the room in the line. The user's old fault, a controller in line twice, is `never-twice`.
-use Prim.Native.Nat.{ℕ, zero, suc, _+_, _*_, _-_, _≤_, _<_}
-use mathlib.Core.Path.{_≡_, refl, sym, ap, _∙_, subst}
-use mathlib.Core.List.{List, [], _∷_, _++_}
+use Prim.Native.Nat.{ℕ, zero, suc, _*_, _≤_, _<_}
+use mathlib.Core.Path.{_≡_, refl, ap, subst}
+use mathlib.Core.List.{List, [], _∷_}
 use native.Mathlib.Omega.{arith}
 use native.Mathlib.Nat.{mul-le-mul}
 use lib.ListN.{length, getD, take}
 use lib.Seq.{take-length}
-use Rattle.err.specs.Limits.{flowLimit, weightLimit, markLimit, allowanceLimit}
+use Rattle.err.specs.Limits.{flowLimit, markLimit, allowanceLimit}
 use Rattle.err.specs.Choose.{ifEmpty, ifZero}
-use Rattle.err.specs.Model.{Flow, Round, Scheduler, flowAt}
+use Rattle.err.specs.Model.{Round, Scheduler, flowAt}
 use Rattle.err.specs.Steps.{roundStarted, whose, whoseTurn}
-use Rattle.err.specs.Rules.{count, activity, FlowRules, LineRules, TurnRules, RoundRules, Rules}
+use Rattle.err.specs.Rules.{count, activity, LineRules, RoundRules, Rules}
 use Rattle.err.specs.declared.Serving.{Serving}
 use Rattle.err.specs.declared.Serving.the-variants.{NoTurn, Turn}
 use Rattle.err.proofs.Counts.{count-head, count-append}

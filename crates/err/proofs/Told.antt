@@ -1,22 +1,21 @@
 -- The numbers that a departure tells are in the ranges of document 01's table, and its allowance is at least its flow's weight.
-use Prim.Native.Nat.{ℕ, zero, suc, _+_, _*_, _-_, _≤_, _<_}
-use mathlib.Core.Path.{_≡_, refl, sym, ap, ap₂, _∙_, subst}
+use Prim.Native.Nat.{ℕ, _≤_, _<_}
+use mathlib.Core.Path.{_≡_, refl, ap, subst}
 use mathlib.Core.List.{List, [], _∷_}
 use native.Mathlib.Omega.{arith}
 use native.Mathlib.Nat.{mul-le-mul}
-use lib.ListN.{length, getD, drop}
-use Rattle.err.specs.Limits.{flowLimit, weightLimit, sizeLimit, markLimit, allowanceLimit}
+use lib.ListN.{length}
+use Rattle.err.specs.Limits.{flowLimit, sizeLimit, markLimit, allowanceLimit}
 use Rattle.err.specs.Choose.{ifZero}
-use Rattle.err.specs.Model.{Flow, Round, Scheduler, flowAt}
-use Rattle.err.specs.Steps.{Visit, roundStarted, turnOpened, surplusCleared, firstLeft, turnEnds, served, visitBy, visit, whose, whoseTurn, headAllowance}
-use Rattle.err.specs.Calls.{departed, nextVisit}
-use Rattle.err.specs.Rules.{Sizes, none, one, RoundRules, Rules}
-use Rattle.err.specs.declared.Reply.{Reply}
-use Rattle.err.specs.declared.Reply.the-variants.{Departure, Idle}
+use Rattle.err.specs.Model.{Flow, Scheduler, flowAt}
+use Rattle.err.specs.Steps.{roundStarted, turnOpened, surplusCleared, visitBy, visit, headAllowance}
+use Rattle.err.specs.Calls.{departed}
+use Rattle.err.specs.Rules.{Sizes, Rules}
+use Rattle.err.specs.declared.Reply.the-variants.{Departure}
 use Rattle.err.specs.declared.Sent.{Sent}
 use Rattle.err.specs.declared.Serving.{Serving}
 use Rattle.err.specs.declared.Serving.the-variants.{NoTurn, Turn}
-use Rattle.err.proofs.Standing.{InRange, TurnFacts, HeadFacts, in-range, turn-facts, head-facts, turn-allowed-at-least-weight}
+use Rattle.err.proofs.Standing.{HeadFacts, in-range, turn-facts, head-facts, turn-allowed-at-least-weight}
 use Rattle.err.proofs.Choosing.{chosen-has}
 use Rattle.err.proofs.Parts.{schedulerMadeOf}
 use Rattle.err.proofs.Flows.{first-in-range}

@@ -1,12 +1,12 @@
 -- Document 01's calls on packet sizes: their checks in order, what they do, and what they reply.
-use Prim.Native.Nat.{ℕ, zero, suc, _+_}
+use Prim.Native.Nat.{ℕ, zero, suc}
 use mathlib.Core.List.{List, [], _∷_, _++_, map}
-use mathlib.Core.Bool.{Bool, true, false, cond, _||_}
+use mathlib.Core.Bool.{cond, _||_}
 use lib.ListN.{length, set, drop}
 use lib.Dec.{leb, ltb, eqb}
 use Rattle.err.specs.Limits.{flowLimit, weightLimit, sizeLimit, queueLimit}
 use Rattle.err.specs.Choose.{ifZero}
-use Rattle.err.specs.Model.{Flow, Round, Scheduler, flowAt, newScheduler}
+use Rattle.err.specs.Model.{Flow, Round, Scheduler, flowAt}
 use Rattle.err.specs.Steps.{Visit, packetJoined, flowLined, visit, whose}
 use Rattle.err.specs.declared.Sent.{Sent}
 use Rattle.err.specs.declared.Reply.{Reply}

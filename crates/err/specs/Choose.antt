@@ -1,7 +1,6 @@
 -- Choices by a list or a number, for the definitions that follow. A choice by a test is `cond` of the library.
 use Prim.Native.Nat.{ℕ, zero, suc}
 use mathlib.Core.List.{List, [], _∷_}
-use mathlib.Core.Bool.{Bool, true, false}
 
 module _ {A : Type 0} where
   -- a where the list is empty, b where it is not

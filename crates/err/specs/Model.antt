@@ -4,7 +4,7 @@ use mathlib.Core.List.{List, []}
 use lib.ListN.{getD, replicate}
 use Rattle.err.specs.Limits.{flowLimit}
 use Rattle.err.specs.declared.Serving.{Serving}
-use Rattle.err.specs.declared.Serving.the-variants.{NoTurn, Turn}
+use Rattle.err.specs.declared.Serving.the-variants.{NoTurn}
 
 -- One flow. Its weight is 0 while it is not open.
 pub record Flow : Type 0 where

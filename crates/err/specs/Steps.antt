@@ -1,7 +1,7 @@
 -- Document 01's steps 1 to 6. Every step concerns the round and one flow.
 use Prim.Native.Nat.{ℕ, _+_, _*_, _-_, _/_, _%_, max}
 use mathlib.Core.List.{List, [], _∷_, _++_}
-use mathlib.Core.Bool.{Bool, true, false, cond, _||_}
+use mathlib.Core.Bool.{Bool, true, false, cond}
 use lib.ListN.{length, getD, drop}
 use lib.Dec.{leb}
 use Rattle.err.specs.Limits.{queueLimit}
@@ -9,7 +9,6 @@ use Rattle.err.specs.Choose.{ifEmpty, ifZero}
 use Rattle.err.specs.Model.{Flow, Round}
 use Rattle.err.specs.declared.Serving.{Serving}
 use Rattle.err.specs.declared.Serving.the-variants.{NoTurn, Turn}
-use Rattle.err.specs.declared.Sent.{Sent}
 use Rattle.err.specs.declared.Reply.{Reply}
 use Rattle.err.specs.declared.Reply.the-variants.{Departure, Idle}
 

@@ -1,4 +1,4 @@
--- Once a match has found that bytes were read, a caller may lend them on. Assumes nothing.
+-- Once a match has found that bytes were read, a caller may lend them on.
 use Prim.Native.Nat.{ℕ}
 use mathlib.Core.List.{List}
 use mathlib.Core.Path.{_≡_, subst}

@@ -1,4 +1,4 @@
--- What the contract of `whole` cites. Assumes nothing.
+-- What the contract of `whole` cites.
 use Prim.Native.Nat.{ℕ}
 use mathlib.Core.List.{List}
 use Rattle.io.specs.Counts.{Counts}

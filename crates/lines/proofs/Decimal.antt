@@ -1,5 +1,4 @@
 -- Laws of `decimal`: it is a digit, or the decimal of a number above 0 with a digit behind it. What else is to be said of it goes by `by-digits`.
--- Assumes nothing.
 use Prim.Native.Nat.{ℕ, zero, suc, _+_, _*_, _/_, _%_, _^_, _<_, _≤_}
 use native.Mathlib.Decide.{decLt}
 use native.Mathlib.Nat.{div-add-mod'}

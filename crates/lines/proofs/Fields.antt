@@ -1,5 +1,4 @@
 -- Words and fields are read where their text stands, and nothing else is read as one.
--- Assumes nothing.
 use Prim.Native.Nat.{ℕ, _+_, _<_, _≤_}
 use Prim.Native.Char.{code}
 use native.Mathlib.Nat.{add-zero}

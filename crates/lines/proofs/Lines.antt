@@ -3,7 +3,6 @@
 --     text-is-line              the same, where the line is said to stand up to a place
 --     nothing-else-is-read      where an event is read, its line stands, up to the place that is given
 --     moves-on                  the place that is given is further on, and not past the end
--- Assumes nothing.
 use Prim.Native.Nat.{ℕ, _+_, _<_, _≤_}
 use Prim.Native.Char.{code}
 use native.Mathlib.Omega.{arith}

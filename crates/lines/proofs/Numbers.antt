@@ -1,5 +1,4 @@
 -- A number is read where its decimal stands with no digit behind it, and nothing else is read as a number.
--- Assumes nothing.
 use Prim.Native.Nat.{ℕ, zero, suc, _+_, _-_, _*_, _<_, _≤_}
 use Prim.Native.Char.{code}
 use native.Mathlib.Nat.{zero-add}
@@ -26,7 +25,7 @@ digitsBehind = mostDigits - 1
 
 -- ---- what stands there is read
 
-pub digit-read : (s : List ℕ) (at d : ℕ) {past : ℕ} → d < 10 → Spans s at (digitByte d ∷ []) past → digitAt s at ≡ Of d past
+digit-read : (s : List ℕ) (at d : ℕ) {past : ℕ} → d < 10 → Spans s at (digitByte d ∷ []) past → digitAt s at ≡ Of d past
 unfolding digitAt
 digit-read s at d {past} h p =
     let e : getD s at 0 ≡ digitByte d = first-byte s at (digitByte d) [] p in
@@ -37,7 +36,7 @@ first-digit : (s : List ℕ) (at left : ℕ) {d next : ℕ} → digitAt s at ≡
 first-digit s at left {d} {next} e = digits-go-on s at left 0 e ∙ ap (λ (v : ℕ). digitsFrom left v s next) (zero-add d)
 
 -- reading a decimal says its number, and goes on with the digits that are left
-pub decimal-read : (s : List ℕ) (at n left : ℕ) {past : ℕ} → Spans s at (decimal n) past → digitsFrom (length (decimal n) + left) 0 s at ≡ digitsFrom left n s past
+decimal-read : (s : List ℕ) (at n left : ℕ) {past : ℕ} → Spans s at (decimal n) past → digitsFrom (length (decimal n) + left) 0 s at ≡ digitsFrom left n s past
 decimal-read s at n left {past} = by-digits Reads digit further n left past
   where
     Reads : ℕ → Type 0

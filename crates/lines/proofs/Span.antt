@@ -1,5 +1,4 @@
 -- Laws of `Spans`: a text that stands in the input is made of parts that stand there, one behind the other.
--- Assumes nothing.
 use Prim.Native.Nat.{ℕ, suc, _+_, _<_}
 use native.Mathlib.Numerals.{add-one}
 use native.Mathlib.Omega.{arith}

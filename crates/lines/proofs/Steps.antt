@@ -1,5 +1,4 @@
 -- What each definition of specs/ answers, by what its parts answer: the equations that the functions' files cite.
--- Assumes nothing.
 use Prim.Native.Nat.{ℕ, zero, suc, _+_, _-_, _*_, _^_, _<_, _≤_}
 use Prim.Native.Char.{code}
 use native.Mathlib.Nat.{pow-le-pow-right, lt-of-lt-of-le, sub-le, suc-sub-suc, sub-zero}
@@ -31,7 +30,7 @@ alike p q = sym p ∙ q
 
 -- ---- a byte, and a word
 
-pub stands-within : (s : List ℕ) (at byte : ℕ) → stands s at byte ≡ true → at < length s
+stands-within : (s : List ℕ) (at byte : ℕ) → stands s at byte ≡ true → at < length s
 unfolding stands
 stands-within s at byte e = ltb-true at (length s) (and-eq-true-iff (ltb at (length s)) (eqb (getD s at 0) byte) .0 e .0)
 

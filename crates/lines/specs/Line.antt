@@ -1,4 +1,4 @@
--- The line at a place of the input: `flow=F weight=W`, `arrive=F size=S` or `send=N`, and a line feed. Assumes nothing.
+-- The line at a place of the input: `flow=F weight=W`, `arrive=F size=S` or `send=N`, and a line feed.
 use Prim.Native.Nat.{ℕ, _+_}
 use mathlib.Core.Bool.{cond}
 use mathlib.Core.List.{List, [], _∷_}

@@ -1,4 +1,4 @@
--- A number at a place of the input: 0 to 65,535, one to five digits, no leading zero except 0 itself. Assumes nothing.
+-- A number at a place of the input: 0 to 65,535, one to five digits, no leading zero except 0 itself.
 use Prim.Native.Nat.{ℕ, zero, suc, _+_, _-_, _*_}
 use Prim.Native.Char.{code}
 use mathlib.Core.Bool.{Bool, cond, _&&_}

@@ -1,4 +1,4 @@
--- Text as the bytes that stand for it in the input. Assumes nothing.
+-- Text as the bytes that stand for it in the input.
 use Prim.Native.Nat.{ℕ}
 use Prim.Native.Char.{code}
 use Prim.Native.String.{String, [] as no-text, _∷_ as text-cons}

@@ -1,4 +1,4 @@
--- The text of an event: what a line of the replay looks like, with no word of how it is read. Assumes nothing.
+-- The text of an event: what a line of the replay looks like, with no word of how it is read.
 use Prim.Native.Nat.{ℕ, zero, suc, _+_, _/_, _%_, _≤_}
 use Prim.Native.Char.{code}
 use Prim.Native.String.{String}

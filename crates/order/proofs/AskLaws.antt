@@ -1,11 +1,7 @@
 -- Open and offer, refused or not, on the two parts that they concern.
-use Prim.Native.Nat.{ℕ, zero, suc, _≤_, _<_}
-use mathlib.Core.Path.{_≡_, refl, sym, ap, _∙_}
-use mathlib.Core.List.{List, []}
+use Prim.Native.Nat.{ℕ}
+use mathlib.Core.Path.{_≡_, sym, ap, _∙_}
 use native.Mathlib.Omega.{arith}
-use Rattle.err.specs.Limits.{flowLimit, weightLimit, queueLimit}
-use Rattle.err.specs.Choose.{ifZero}
-use Rattle.err.specs.Model.{Flow, Round}
 use Rattle.err.specs.Steps.{packetJoined, flowLined}
 use Rattle.err.specs.Calls.{openRefusal, offerRefusal, openFlow, answerOf}
 use Rattle.err.specs.declared.Answer.{Answer}

@@ -1,22 +1,22 @@
 -- Step 2 for the flow at the head of the line: its turn may be served, and is what the model's visit serves.
-use Prim.Native.Nat.{ℕ, zero, suc, _+_, _*_, _-_, _≤_, _<_}
+use Prim.Native.Nat.{ℕ, zero, suc, _*_, _-_, _≤_, _<_}
 use mathlib.Core.Path.{_≡_, refl, sym, ap, _∙_, subst}
-use mathlib.Core.List.{List, [], _∷_, _++_}
+use mathlib.Core.List.{List, [], _∷_}
 use native.Mathlib.Omega.{arith}
 use native.Mathlib.Nat.{mul-le-mul}
-use lib.ListN.{length, getD, drop, replicate, length-drop}
-use Rattle.err.specs.Limits.{flowLimit, weightLimit, markLimit, allowanceLimit}
+use lib.ListN.{length, getD, drop, length-drop}
+use Rattle.err.specs.Limits.{flowLimit, weightLimit, markLimit}
 use Rattle.err.specs.Choose.{ifZero}
 use Rattle.err.specs.Model.{Flow, Round}
 use Rattle.err.specs.Rules.{FlowRules}
-use Rattle.err.specs.Steps.{Visit, roundStarted, allowance, headAllowance, turnOpened, surplusCleared, served, visitBy, visit, whose, whoseTurn}
+use Rattle.err.specs.Steps.{roundStarted, allowance, headAllowance, turnOpened, surplusCleared, served, visitBy, visit, whose, whoseTurn}
 use Rattle.err.specs.declared.Reply.the-variants.{Idle}
 use Rattle.err.specs.declared.Serving.{Serving}
 use Rattle.err.specs.declared.Serving.the-variants.{NoTurn, Turn}
 use Rattle.err.proofs.Flows.{cleared-flow-rules, none-is-empty}
 use Rattle.err.proofs.Choosing.{chosen-has}
 use Rattle.order.specs.Encoding.{RoundHeld, lineRoom, cells, encodeFlow, encodeRound, viewRound, viewFlow}
-use Rattle.order.specs.Premises.{FlowReady, RoundReady, HasFirst, MayServe, MayBegin, MayVisit, VisitHeld, encodeVisit}
+use Rattle.order.specs.Premises.{FlowReady, RoundReady, MayServe, MayBegin, MayVisit, VisitHeld, encodeVisit}
 use Rattle.order.specs.declared.FlowCell.{FlowCell}
 use Rattle.order.proofs.TurnLaws.{same-visit}
 use Rattle.order.proofs.Encoded.{flow-seen, flow-ready, round-seen, round-ready, waiting-is, line-is, length-is}
@@ -27,7 +27,7 @@ unfolding cells
 first-cell [] = refl
 first-cell (f ∷ l) = refl
 
-pub head-is : (r : RoundHeld) → r ≡ encodeRound (viewRound r) → getD (r .line) 0 0 ≡ getD (viewRound r .line) 0 0
+head-is : (r : RoundHeld) → r ≡ encodeRound (viewRound r) → getD (r .line) 0 0 ≡ getD (viewRound r .line) 0 0
 head-is r form = ap (λ (l : List ℕ). getD l 0 0) (line-is r form) ∙ first-cell (viewRound r .line)
 
 visit-of-head : (l : List ℕ) (r : Round) (x : Flow) → 0 < length l

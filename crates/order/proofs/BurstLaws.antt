@@ -1,23 +1,20 @@
 -- Burst, departure by departure: what is written so far and what the rest of the departures will write make up all of them.
-use Prim.Native.Nat.{ℕ, zero, suc, _+_, _-_, _≤_, _<_}
+use Prim.Native.Nat.{ℕ, suc, _+_, _-_, _≤_, _<_}
 use mathlib.Core.Path.{_≡_, refl, sym, ap, ap₂, _∙_, subst}
-use mathlib.Core.List.{List, [], _∷_, _++_, map, append-nil, append-assoc}
+use mathlib.Core.List.{List, [], _∷_, _++_, append-nil}
 use native.Mathlib.Omega.{arith}
 use native.Mathlib.Numerals.{add-one}
-use lib.ListN.{length, set, take, drop, length-set, length-take, length-map, take-append-drop}
+use lib.ListN.{length, set, take, drop, length-set, length-map, take-append-drop}
 use lib.Seq.{take-suc-set, drop-set-lt, length-take-le, drop-drop, append-snoc}
-use lib.Dec.{ltb}
 use mathlib.Core.Logic.{⊎-elim}
 use types.Run.{OneOf}
 use denote.Enum.Declared.{tagOf}
 use Rattle.err.proofs.Reply.{the-type}
-use mathlib.Core.Bool.{Bool, true, false, cond}
+use mathlib.Core.Bool.{Bool, cond}
 use borrow.Author.Tests.{lt-ltb, le-ltb}
 use Rattle.err.specs.Choose.{ifZero}
 use Rattle.err.specs.Model.{Scheduler}
-use Rattle.err.specs.Calls.{Outcome, Departures, Burst, departed, departures, andThen, flowNumbers, burst, burstMade, burstRefusal}
-use Rattle.err.specs.Rules.{Rules}
-use Rattle.err.specs.declared.Count.{Count}
+use Rattle.err.specs.Calls.{Departures, Burst, departed, departures, andThen, flowNumbers, burst, burstMade}
 use Rattle.err.specs.declared.Count.the-variants.{Made, Refused as CountRefused}
 use Rattle.err.specs.declared.Reply.{Reply}
 use Rattle.err.specs.declared.Reply.the-variants.{Departure, Idle, Refused}
@@ -25,7 +22,6 @@ use Rattle.err.specs.declared.Sent.{Sent}
 use Rattle.err.proofs.Keeps.{departed-keeps}
 use Rattle.order.specs.Encoding.{encode, view, Sound}
 use Rattle.order.specs.Promised.{countedAs, BurstGives}
-use Rattle.order.specs.declared.Counted.{Counted}
 use Rattle.order.specs.declared.State.{State}
 use Rattle.order.proofs.StateLaws.{seen-as, sound-of}
 
@@ -109,7 +105,7 @@ module _ (s : Scheduler) (n : ℕ) (before : List ℕ) (c : State) (made : ℕ) 
         ∙ ap length all-written
         ∙ length-take-le made list (omega (arith, U .list-fits, U .same-length, U .not-too-many))
 
-    pub burst-ends : (c₀ : State) → view c₀ ≡ s → BurstGives c₀ n before list (record { state = c′; count = Made made })
+    burst-ends : (c₀ : State) → view c₀ ≡ s → BurstGives c₀ n before list (record { state = c′; count = Made made })
     unfolding countedAs burst burstMade
     burst-ends c₀ same =
         record {

@@ -6,14 +6,14 @@ use native.Mathlib.Omega.{arith}
 use lib.ListN.{length, set, take, drop, replicate, length-append, length-replicate, replicate-append-replicate}
 use lib.Seq.{take-append-seam, set-append-seam, drop-append-add}
 use Rattle.err.specs.Limits.{flowLimit, markLimit}
-use Rattle.err.specs.Model.{Flow, Round, Scheduler}
+use Rattle.err.specs.Model.{Flow, Round}
 use Rattle.err.specs.Rules.{Sizes, FlowRules}
 use Rattle.order.specs.Encoding.{RoundHeld, lineRoom, cells, packed, encodeFlow, viewFlow, encodeRound, viewRound}
 use Rattle.order.specs.Premises.{FlowReady, RoundReady}
 use Rattle.order.specs.declared.FlowCell.{FlowCell}
 use Rattle.order.proofs.Packed.{packed-seen}
 
-pub cells-seen : (n : ℕ) (l : List ℕ) → take (length l) (cells n l) ≡ l
+cells-seen : (n : ℕ) (l : List ℕ) → take (length l) (cells n l) ≡ l
 unfolding cells
 cells-seen n l = take-append-seam l (replicate (n - length l) 0)
 

@@ -4,10 +4,8 @@ use mathlib.Core.Path.{_≡_, refl, sym, ap, _∙_}
 use mathlib.Core.List.{List, [], _∷_, _++_}
 use native.Mathlib.Omega.{arith}
 use native.Mathlib.Numerals.{sub-one}
-use lib.ListN.{length, getD, length-append, length-drop}
+use lib.ListN.{length, length-append, length-drop}
 use Rattle.err.specs.Limits.{weightLimit, queueLimit, sizeLimit}
-use Rattle.err.specs.Choose.{ifEmpty}
-use Rattle.err.specs.Rules.{Sizes, none, one}
 use Rattle.err.specs.Steps.{packetJoined, surplusCleared, firstSize, firstLeft, excessKept}
 use Rattle.err.proofs.Flows.{sizes-joined, first-small}
 use Rattle.err.proofs.Choosing.{empty-by-count, waiting-by-count}

@@ -1,16 +1,16 @@
 -- Whatever calls are made, in whatever order, the states handed back are those of the model's chain of the same calls.
 use Prim.Native.Nat.{ℕ, _≤_}
-use mathlib.Core.Path.{_≡_, refl, sym, ap, _∙_, subst}
+use mathlib.Core.Path.{_≡_, sym, ap, _∙_}
 use mathlib.Core.List.{List, [], _∷_, _++_}
-use Rattle.err.specs.Model.{Scheduler, newScheduler}
-use Rattle.err.specs.Rules.{count, Rules}
+use Rattle.err.specs.Model.{Scheduler}
+use Rattle.err.specs.Rules.{count}
 use Rattle.err.specs.Calls.{opened, offered, departed, burst}
 use Rattle.err.specs.Chain.{Call, resetting, opening, offering, departing, bursting, History, start, next, chain, after}
 use Rattle.err.proofs.Demand2.{every-state-keeps-the-rules}
 use Rattle.err.proofs.Standing.{never-twice}
 use Rattle.err.proofs.Chains.{chain-append}
 use Rattle.order.specs.Encoding.{encode, view, Sound}
-use Rattle.order.specs.Promised.{answeredAs, departedAs, countedAs, NewGives, OpenGives, OfferGives, DepartGives, BurstGives}
+use Rattle.order.specs.Promised.{answeredAs, departedAs, countedAs}
 use Rattle.order.specs.Runs.{Run, begins, then-resets, then-opens, then-offers, then-departs, then-bursts}
 use Rattle.order.specs.declared.State.{State}
 use Rattle.order.specs.declared.Answered.{Answered}

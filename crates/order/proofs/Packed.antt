@@ -1,11 +1,11 @@
 -- Sizes as the digits of one number: one more, one less, the first, and back.
 use Prim.Native.Nat.{ℕ, zero, suc, pred, _+_, _*_, _/_, _%_, _^_, _≤_, _<_}
 use mathlib.Core.Path.{_≡_, refl, sym, ap, ap₂, _∙_}
-use mathlib.Core.List.{List, [], _∷_, _++_, map}
+use mathlib.Core.List.{List, [], _∷_, _++_}
 use native.Mathlib.Omega.{arith}
 use native.Mathlib.Nat.{pow-succ', pow-suc, pow-le-pow-right, mul-suc, mul-assoc, one-mul}
 use lib.Pow.{pow-add, shl-exact}
-use lib.ListN.{length, getD, drop, List·getD-map}
+use lib.ListN.{length, getD, drop}
 use Rattle.err.specs.Limits.{sizeLimit, queueLimit}
 use Rattle.err.specs.Rules.{Sizes, none, one}
 use Rattle.order.specs.Encoding.{packed, unpacked}

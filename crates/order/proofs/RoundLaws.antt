@@ -1,16 +1,13 @@
 -- From what a function on the round stores to what the model's step says.
-use Prim.Native.Nat.{ℕ, zero, suc, _+_, _*_, _-_, _≤_, _<_, max}
-use mathlib.Core.Path.{_≡_, refl, sym, ap, _∙_, subst}
+use Prim.Native.Nat.{ℕ, _+_, _*_, _-_, _≤_, _<_, max}
+use mathlib.Core.Path.{_≡_, refl, sym, ap, _∙_}
 use mathlib.Core.List.{List, [], _∷_, _++_}
-use mathlib.Core.Bool.{Bool, true, false, cond}
+use mathlib.Core.Bool.{Bool, cond}
 use native.Mathlib.Omega.{arith}
-use lib.ListN.{length, getD, set, drop, length-append, length-drop}
-use lib.Dec.{leb}
+use lib.ListN.{length, set, drop, length-append, length-drop}
 use borrow.Author.Tests.{le-leb, lt-leb}
-use Rattle.err.specs.Limits.{flowLimit, markLimit}
-use Rattle.err.specs.Choose.{ifEmpty, ifZero}
-use Rattle.err.specs.Model.{Flow, Round}
-use Rattle.err.specs.Steps.{flowLined, roundStarted, turnOpened, turnEnds, turnKept, turnClosed, raised, roundedUp}
+use Rattle.err.specs.Limits.{flowLimit}
+use Rattle.err.specs.Steps.{flowLined, roundStarted, turnOpened, turnKept, turnClosed, raised, roundedUp}
 use Rattle.err.proofs.Rounding.{rounded-up-within, rounded-up-beyond}
 use Rattle.err.specs.declared.Serving.{Serving}
 use Rattle.err.specs.declared.Serving.the-variants.{NoTurn, Turn}
@@ -21,7 +18,7 @@ use Rattle.order.specs.declared.FlowCell.{FlowCell}
 use Rattle.order.proofs.Encoded.{cells-length, cells-joined, cells-left, waiting-is, line-is, length-is}
 
 -- Two rounds' cells with equal parts are equal.
-pub same-round : {l l′ : List ℕ} {n n′ v v′ m m′ k k′ : ℕ} {t t′ : Serving} → l ≡ l′ → n ≡ n′ → v ≡ v′ → m ≡ m′ → k ≡ k′ → t ≡ t′
+same-round : {l l′ : List ℕ} {n n′ v v′ m m′ k k′ : ℕ} {t t′ : Serving} → l ≡ l′ → n ≡ n′ → v ≡ v′ → m ≡ m′ → k ≡ k′ → t ≡ t′
     → _≡_ {A = RoundHeld} (record { line = l; length = n; visits = v; mark = m; running = k; turn = t })
     (record { line = l′; length = n′; visits = v′; mark = m′; running = k′; turn = t′ })
 same-round a b c d e f = λ i. record { line = a i; length = b i; visits = c i; mark = d i; running = e i; turn = f i }
@@ -38,14 +35,14 @@ head-taken (f ∷ l) c e h b =
 
 module _ (r : RoundHeld) (h : RoundReady r) where
   -- The round as it is seen, with other numbers.
-  pub renumbered : (v m k : ℕ) (t : Serving)
+  renumbered : (v m k : ℕ) (t : Serving)
       → record { line = r .line; length = r .length; visits = v; mark = m; running = k; turn = t }
       ≡ encodeRound (record { line = viewRound r .line; visits = v; mark = m; running = k; turn = t })
   unfolding encodeRound
   renumbered v m k t = same-round (line-is r (h .form)) (length-is r (h .form)) refl refl refl refl
 
   -- The same with a flow at the end of the line.
-  pub lengthened : (f v m k : ℕ) (t : Serving) → r .length < flowLimit
+  lengthened : (f v m k : ℕ) (t : Serving) → r .length < flowLimit
       → record { line = set (r .line) (r .length) f; length = r .length + 1; visits = v; mark = m; running = k; turn = t }
       ≡ encodeRound (record { line = viewRound r .line ++ (f ∷ []); visits = v; mark = m; running = k; turn = t })
   unfolding encodeRound

@@ -1,11 +1,11 @@
 -- Bytes that lie in an array from its start, with zeros behind: one more, one less, and taking the first out step by step.
-use Prim.Native.Nat.{ℕ, zero, suc, _+_, _-_, _≤_, _<_}
-use mathlib.Core.Path.{_≡_, refl, sym, ap, _∙_}
-use mathlib.Core.List.{List, [], _∷_, _++_, append-assoc}
+use Prim.Native.Nat.{ℕ, suc, _+_, _-_, _<_}
+use mathlib.Core.Path.{_≡_, sym, ap, _∙_}
+use mathlib.Core.List.{List, _∷_, _++_}
 use native.Mathlib.Omega.{arith}
 use native.Mathlib.Numerals.{add-one, one-add}
-use lib.ListN.{length, getD, set, take, drop, length-append, length-drop, drop-of-length-le}
-use lib.Seq.{drop-cons, take-suc, take-all, length-take-le, getD-append-add, getD-drop, set-at, append-snoc, take-length, drop-drop}
+use lib.ListN.{length, getD, set, take, drop, length-drop}
+use lib.Seq.{drop-cons, take-suc, take-all, length-take-le, getD-append-add, getD-drop, set-at, append-snoc}
 
 -- The first i bytes after the first have moved down.
 abbrev pub movedDown : List ℕ → ℕ → List ℕ

@@ -1,9 +1,9 @@
 -- The whole state: it is seen again as it was encoded, its parts are ready for the private functions, and one flow put back with the round is
 -- what the model puts.
-use Prim.Native.Nat.{ℕ, zero, suc, _+_, _*_, _-_, _≤_, _<_}
+use Prim.Native.Nat.{ℕ, zero, suc, _≤_, _<_}
 use mathlib.Core.Path.{_≡_, refl, sym, ap, ap₂, _∙_, subst}
-use mathlib.Core.List.{List, [], _∷_, _++_, map}
-use mathlib.Core.Bool.{Bool, true, false, cond}
+use mathlib.Core.List.{List, [], _∷_, map}
+use mathlib.Core.Bool.{Bool, cond}
 use native.Mathlib.Omega.{arith}
 use native.Mathlib.Decide.{decLt}
 use lib.ListN.{length, getD, set, length-map, List·getD-map}
@@ -12,17 +12,17 @@ use borrow.Author.Tests.{lt-ltb, le-ltb, le-leb}
 use Rattle.err.specs.Limits.{flowLimit}
 use Rattle.err.specs.Choose.{ifZero}
 use Rattle.err.specs.Model.{Flow, Round, Scheduler, closedFlow, flowAt, newScheduler}
-use Rattle.err.specs.Steps.{Visit, visit, whose, whoseTurn, packetJoined, flowLined}
-use Rattle.err.specs.Calls.{Outcome, put, unlessRefused, openRefusal, offerRefusal, openFlow, answerOf, opened, offered, departed, nextVisit}
-use Rattle.err.specs.Rules.{Sizes, none, FlowRules, Rules}
+use Rattle.err.specs.Steps.{visit, whose, whoseTurn, packetJoined, flowLined}
+use Rattle.err.specs.Calls.{put, unlessRefused, openRefusal, offerRefusal, openFlow, answerOf, opened, offered, departed, nextVisit}
+use Rattle.err.specs.Rules.{Sizes, Rules}
 use Rattle.err.specs.declared.Answer.{Answer}
 use Rattle.err.specs.declared.Reply.{Reply}
 use Rattle.err.specs.declared.Serving.{Serving}
-use Rattle.err.specs.declared.Serving.the-variants.{NoTurn, Turn}
+use Rattle.err.specs.declared.Serving.the-variants.{Turn}
 use Rattle.err.proofs.Flows.{put-back, none-is-empty}
 use Rattle.err.proofs.Keeps.{new-keeps, opened-keeps, offered-keeps, departed-keeps}
 use Rattle.err.proofs.Standing.{InRange, TurnFacts, HeadFacts, in-range, room-for-another, turn-facts, head-facts, whose-in-reach}
-use Rattle.err.proofs.Choosing.{zero-chosen, positive-chosen, chosen-has}
+use Rattle.err.proofs.Choosing.{positive-chosen, chosen-has}
 use Rattle.order.specs.Encoding.{RoundHeld, held, numbersOf, roundOf, encodeFlow, viewFlow, encodeRound, viewRound, encode, view, Sound}
 use Rattle.order.specs.Premises.{FlowReady, RoundReady, HasFirst, MayServe, MayBegin, MayVisit, VisitHeld, encodeVisit, heldVisit, OfferHeld, withLength, heldOffer, openedParts, offeredParts}
 use Rattle.order.specs.Promised.{answeredAs, departedAs, NewGives, OpenGives, OfferGives, DepartGives}
@@ -35,7 +35,6 @@ use Rattle.order.specs.declared.RoundCell.{RoundCell}
 use Rattle.order.specs.declared.State.{State}
 use Rattle.order.specs.declared.Visited.{Visited}
 use Rattle.order.proofs.Encoded.{flow-seen, flow-ready, round-seen, round-ready, waiting-is, length-is}
-use Rattle.order.proofs.BeginLaws.{head-is}
 
 -- What reading past the end of the flows would give.
 abbrev pub noCell : FlowCell
@@ -91,7 +90,7 @@ module _ (c : State) (S : Sound c) where
   unfolding encode view
   round-form = ap roundOf (S .form)
 
-  pub cell-at : (f : ℕ) → f < flowLimit → getD (c .flows) f noCell ≡ encodeFlow (flowAt (view c) f)
+  cell-at : (f : ℕ) → f < flowLimit → getD (c .flows) f noCell ≡ encodeFlow (flowAt (view c) f)
   cell-at f h =
       ap (λ (l : List FlowCell). getD l f noCell) flows-are
       ∙ any-default (map encodeFlow (view c .flows)) f noCell (encodeFlow closedFlow) (omega (arith, length-map (view c .flows) encodeFlow, S .rules .all-flows))
@@ -115,7 +114,7 @@ module _ (c : State) (S : Sound c) where
       }
 
   -- One flow put back, with a round.
-  pub put-law : (f : ℕ) (x : FlowCell) (line : List ℕ) (r : RoundCell) (y : Flow) (q : Round) → x ≡ encodeFlow y → held line r ≡ encodeRound q
+  put-law : (f : ℕ) (x : FlowCell) (line : List ℕ) (r : RoundCell) (y : Flow) (q : Round) → x ≡ encodeFlow y → held line r ≡ encodeRound q
       → record { flows = set (c .flows) f x; line = line; round = r } ≡ encode (put (view c) f y q)
   unfolding encode put
   put-law f x line r y q a b =

@@ -1,26 +1,24 @@
 -- From what serving a flow makes of its parts to what the model's steps 2 to 6 say.
-use Prim.Native.Nat.{ℕ, zero, suc, _+_, _*_, _-_, _≤_, _<_}
+use Prim.Native.Nat.{ℕ, _+_, _≤_, _<_}
 use mathlib.Core.Path.{_≡_, refl, sym, ap, _∙_, subst}
-use mathlib.Core.List.{List, [], _∷_, _++_}
-use mathlib.Core.Bool.{Bool, true, false}
+use mathlib.Core.List.{List, [], _∷_}
+use mathlib.Core.Bool.{true}
 use native.Mathlib.Omega.{arith}
-use lib.ListN.{length, getD, drop, length-drop}
+use lib.ListN.{length, drop}
 use lib.Dec.{leb}
 use borrow.Author.Tests.{le-leb, lt-leb}
-use Rattle.err.specs.Limits.{flowLimit, markLimit, sizeLimit, allowanceLimit}
-use Rattle.err.specs.Model.{Flow, Round}
+use Rattle.err.specs.Limits.{sizeLimit, allowanceLimit}
+use Rattle.err.specs.Model.{Flow}
 use Rattle.err.specs.Rules.{FlowRules}
-use Rattle.err.specs.Steps.{Visit, roundStarted, allowance, turnOpened, surplusCleared, firstSize, firstLeft, turnEnds, turnKept, turnClosed, excessKept, settled, served, visitBy, visit, whose}
+use Rattle.err.specs.Steps.{allowance, surplusCleared, firstSize, firstLeft, turnEnds, turnKept, turnClosed, excessKept, settled, served}
 use Rattle.err.specs.declared.Reply.{Reply}
-use Rattle.err.specs.declared.Reply.the-variants.{Departure, Idle}
-use Rattle.err.specs.declared.Serving.{Serving}
-use Rattle.err.specs.declared.Serving.the-variants.{NoTurn, Turn}
-use Rattle.err.proofs.Flows.{left-flow-rules, cleared-flow-rules}
+use Rattle.err.specs.declared.Reply.the-variants.{Departure}
+use Rattle.err.proofs.Flows.{left-flow-rules}
 use Rattle.err.proofs.Choosing.{empty-by-count, waiting-by-count}
 use Rattle.order.specs.Encoding.{RoundHeld, encodeFlow, encodeRound, viewRound, viewFlow}
-use Rattle.order.specs.Premises.{FlowReady, RoundReady, HasFirst, MayServe, MayBegin, MayVisit, VisitHeld, encodeVisit}
+use Rattle.order.specs.Premises.{FlowReady, MayServe, VisitHeld, encodeVisit}
 use Rattle.order.specs.declared.FlowCell.{FlowCell}
-use Rattle.order.proofs.Encoded.{flow-seen, flow-ready, round-seen, round-ready, waiting-is, line-is, length-is}
+use Rattle.order.proofs.Encoded.{flow-seen, flow-ready, waiting-is}
 use Rattle.order.proofs.FlowLaws.{nothing-kept, first-size-small}
 
 -- A flow without surplus keeps its rules when its first packet leaves.

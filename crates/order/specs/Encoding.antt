@@ -6,7 +6,7 @@ use mathlib.Core.List.{List, [], _∷_, _++_, map}
 use lib.ListN.{length, take, replicate}
 use Rattle.err.specs.Limits.{flowLimit, sizeLimit}
 use Rattle.err.specs.Model.{Flow, Round, Scheduler}
-use Rattle.err.specs.Rules.{FlowRules, Rules}
+use Rattle.err.specs.Rules.{Rules}
 use Rattle.order.specs.declared.FlowCell.{FlowCell}
 use Rattle.order.specs.declared.RoundCell.{RoundCell}
 use Rattle.order.specs.declared.State.{State}

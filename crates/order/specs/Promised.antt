@@ -3,7 +3,7 @@
 use Prim.Native.Nat.{ℕ}
 use mathlib.Core.Path.{_≡_}
 use mathlib.Core.List.{List}
-use Rattle.err.specs.Model.{Scheduler, newScheduler}
+use Rattle.err.specs.Model.{newScheduler}
 use Rattle.err.specs.Calls.{Outcome, Burst, opened, offered, departed, burst}
 use Rattle.err.specs.declared.Answer.{Answer}
 use Rattle.err.specs.declared.Reply.{Reply}

@@ -1,4 +1,4 @@
--- From what the scheduler's calls and the printing functions give to what `run` and `send` promise. Assumes nothing.
+-- From what the scheduler's calls and the printing functions give to what `run` and `send` promise.
 use Prim.Native.Nat.{ℕ, suc, _+_, _-_, _^_, _<_, _≤_}
 use native.Mathlib.Omega.{arith}
 use mathlib.Core.List.{List, [], _∷_}
@@ -11,7 +11,6 @@ use Rattle.err.specs.declared.Sent.{Sent}
 use Rattle.err.specs.declared.Answer.{Answer}
 use Rattle.err.specs.declared.Reply.{Reply}
 use Rattle.err.specs.declared.Reply.the-variants.{Departure}
-use Rattle.err.proofs.Keeps.{opened-keeps, offered-keeps, departed-keeps}
 use Rattle.err.proofs.Reply.{the-type}
 use Rattle.lines.specs.declared.Event.{Event}
 use Rattle.lines.specs.declared.Event.the-variants.{Flow, Arrive, Send}

@@ -1,4 +1,4 @@
--- The replay of document 01's worked input prints its six lines. Assumes nothing.
+-- The replay of document 01's worked input prints its six lines.
 use mathlib.Core.Path.{_≡_, refl}
 use Rattle.err.specs.Model.{newScheduler}
 use Rattle.err.specs.Steps.{packetJoined, flowLined, roundStarted, turnOpened, surplusCleared, firstLeft, turnKept, raised, turnClosed, excessKept, settled, served, visitBy, visit}

@@ -3,7 +3,6 @@
 --     transcript-fits    a buffer of four times the longest input holds every transcript
 --     nothing-left-off   so what `play` puts into such a buffer is the whole transcript
 --     count-within       what `play` counts is within the buffer, so that a caller may lend it on
--- Assumes nothing.
 use Prim.Native.Nat.{ℕ, zero, suc, _+_, _*_, _-_, _^_, _<_, _≤_}
 use native.Mathlib.Decide.{decLt}
 use native.Mathlib.Omega.{arith}

@@ -1,4 +1,4 @@
--- What is left of an input, in the loop of `replay`, leads to the whole transcript. Assumes nothing.
+-- What is left of an input, in the loop of `replay`, leads to the whole transcript.
 use Prim.Native.Nat.{ℕ, _+_, _*_, _-_, _^_, _<_, _≤_}
 use native.Mathlib.Omega.{arith}
 use mathlib.Core.Bool.{Bool, cond}
@@ -6,7 +6,7 @@ use mathlib.Core.List.{List, [], _∷_}
 use mathlib.Core.Path.{_≡_, sym, ap, ap₂, _∙_}
 use lib.ListN.{length}
 use borrow.Author.Tests.{lt-ltb, le-ltb}
-use Rattle.err.specs.Model.{Scheduler, newScheduler}
+use Rattle.err.specs.Model.{Scheduler}
 use Rattle.err.proofs.Keeps.{new-keeps}
 use Rattle.lines.specs.Line.{lineAt}
 use Rattle.lines.specs.Number.{largest}
@@ -15,7 +15,7 @@ use Rattle.lines.specs.declared.Event.{Event}
 use Rattle.lines.specs.declared.Event.the-variants.{Flow, Arrive, Send}
 use Rattle.lines.specs.declared.Line.the-variants.{Read, Bad}
 use Rattle.lines.proofs.Lines.{moves-on, nothing-else-is-read}
-use Rattle.order.specs.Encoding.{view, Sound}
+use Rattle.order.specs.Encoding.{Sound}
 use Rattle.order.specs.Promised.{NewGives}
 use Rattle.order.specs.declared.State.{State}
 use Rattle.order.proofs.StateLaws.{seen-as}

@@ -1,4 +1,4 @@
--- The fields of a line, put one behind the other, are the line of a report. Assumes nothing.
+-- The fields of a line, put one behind the other, are the line of a report.
 use Prim.Native.Nat.{ℕ}
 use mathlib.Core.Path.{_≡_}
 use Rattle.err.specs.declared.Sent.{Sent}

@@ -1,6 +1,5 @@
 -- The script of an input, line by line. Its bound on the lines never cuts it short.
 --     more-lines-allowed   a larger bound gives the same script
--- Assumes nothing.
 use Prim.Native.Nat.{ℕ, zero, suc, _+_, _-_, _<_, _≤_}
 use native.Mathlib.Decide.{decLt}
 use native.Mathlib.Omega.{arith}

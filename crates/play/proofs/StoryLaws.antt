@@ -1,9 +1,8 @@
--- What is told of an event, and what it makes of a replay, step by step. Assumes nothing.
+-- What is told of an event, and what it makes of a replay, step by step.
 use Prim.Native.Nat.{ℕ, zero, suc, _+_, _≤_}
 use native.Mathlib.Omega.{arith}
 use mathlib.Core.Bool.{Bool, cond}
 use mathlib.Core.List.{List, [], _∷_, _++_, append-nil, append-assoc}
-use mathlib.Core.Logic.{⊎-elim}
 use mathlib.Core.Path.{_≡_, refl, sym, ap, ap₂, _∙_}
 use lib.ListN.{length}
 use lib.Dec.{leb·suc-suc}
@@ -11,7 +10,7 @@ use borrow.Author.Tests.{lt-ltb}
 use denote.Enum.Declared.{tagOf}
 use types.Run.{OneOf}
 use Rattle.err.specs.Model.{Scheduler}
-use Rattle.err.specs.Calls.{Departures, departed, andThen, departures}
+use Rattle.err.specs.Calls.{departed, andThen, departures}
 use Rattle.err.specs.declared.Sent.{Sent}
 use Rattle.err.specs.declared.Answer.{Answer}
 use Rattle.err.specs.declared.Answer.the-variants.{Done, Refused}

@@ -1,23 +1,17 @@
 -- How many packets wait in all flows together, and what each call makes of that number.
-use Prim.Native.Nat.{ℕ, zero, suc, _+_, _<_, _≤_, suc-le-suc}
+use Prim.Native.Nat.{ℕ, zero, suc, _+_, _<_, _≤_}
 use native.Mathlib.Decide.{decLt}
-use native.Mathlib.Nat.{mul-le-mul}
 use native.Mathlib.Omega.{arith}
-use mathlib.Core.Bool.{Bool, true, false}
 use mathlib.Core.List.{List, [], _∷_}
-use mathlib.Core.Path.{_≡_, refl, sym, ap, ap₂, _∙_, subst}
-use lib.ListN.{length, getD, set, drop, length-append, length-drop, List·getD-eq-default}
+use mathlib.Core.Path.{_≡_, refl, ap, subst}
+use lib.ListN.{length, getD, set, length-append, List·getD-eq-default}
 use lib.Seq.{set-out}
-use Rattle.err.specs.Limits.{flowLimit, sizeLimit, markLimit, allowanceLimit}
-use Rattle.err.specs.Choose.{ifZero}
-use Rattle.err.specs.Model.{Flow, Round, Scheduler, closedFlow, flowAt, newScheduler}
-use Rattle.err.specs.Steps.{Visit, packetJoined, flowLined, roundStarted, turnOpened, surplusCleared, firstSize, firstLeft, excessKept, turnEnds, settled, served, headAllowance, visitBy, visit, whose, whoseTurn}
+use Rattle.err.specs.Model.{Flow, Scheduler, closedFlow, flowAt, newScheduler}
+use Rattle.err.specs.Steps.{packetJoined, flowLined, whose}
 use Rattle.err.specs.Calls.{put, openFlow, nextVisit, departed}
-use Rattle.err.specs.Rules.{Sizes, none, one, Rules}
-use Rattle.err.specs.declared.Reply.the-variants.{Departure, Idle}
+use Rattle.err.specs.Rules.{Rules}
+use Rattle.err.specs.declared.Reply.the-variants.{Departure}
 use Rattle.err.specs.declared.Sent.{Sent}
-use Rattle.err.specs.declared.Serving.{Serving}
-use Rattle.err.specs.declared.Serving.the-variants.{NoTurn, Turn}
 use Rattle.err.proofs.Standing.{whose-in-reach}
 use Rattle.err.proofs.Flows.{here-now}
 use Rattle.err.proofs.Departing.{Leaves, departed-leaves, visit-adds-none}

@@ -1,4 +1,4 @@
--- The events of an input, line by line. Assumes nothing.
+-- The events of an input, line by line.
 use Prim.Native.Nat.{ℕ, zero, suc}
 use mathlib.Core.Bool.{true, false}
 use mathlib.Core.List.{List}

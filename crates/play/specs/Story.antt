@@ -1,4 +1,4 @@
--- What happens in a replay: each event is a call on the scheduler, and what is told of it. Assumes nothing.
+-- What happens in a replay: each event is a call on the scheduler, and what is told of it.
 use Prim.Native.Nat.{ℕ, _+_}
 use mathlib.Core.Bool.{cond}
 use mathlib.Core.List.{List, [], _∷_, _++_}

@@ -1,4 +1,4 @@
--- The text that a replay prints: every report is a line. Assumes nothing.
+-- The text that a replay prints: every report is a line.
 use Prim.Native.Nat.{ℕ, _*_}
 use mathlib.Core.Bool.{cond}
 use mathlib.Core.List.{List, [], _∷_, _++_}

@@ -1,4 +1,4 @@
--- Document 01's worked example: an input, and what the replay prints for it. Assumes nothing.
+-- Document 01's worked example: an input, and what the replay prints for it.
 use Prim.Native.Nat.{ℕ}
 use mathlib.Core.List.{List, _++_}
 use Rattle.lines.specs.Text.{bytes}

@@ -5,7 +5,6 @@
 --     byte-fits       one byte where there is room
 --     byte-left-off   one byte where there is none
 --     printed         a text put from the start of a buffer is printed there
--- Assumes nothing.
 use Prim.Native.Nat.{ℕ, _+_, _<_, _≤_, min}
 use native.Mathlib.Omega.{arith}
 use mathlib.Core.Bool.{Bool, true, false, cond}
@@ -45,7 +44,7 @@ byte-keeps p byte = either (ltb (p .past) (length (p .bytes)))
     either true = length-set (p .bytes) (p .past) byte
     either false = refl
 
-pub put-keeps : (p : Page) (text : List ℕ) → length (put p text .bytes) ≡ length (p .bytes)
+put-keeps : (p : Page) (text : List ℕ) → length (put p text .bytes) ≡ length (p .bytes)
 unfolding put
 put-keeps p [] = refl
 put-keeps p (x ∷ text) = put-keeps (putByte p x) text ∙ byte-keeps p x

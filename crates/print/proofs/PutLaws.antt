@@ -1,4 +1,4 @@
--- A word put byte by byte, and a number put digit by digit. Assumes nothing.
+-- A word put byte by byte, and a number put digit by digit.
 use Prim.Native.Nat.{ℕ, _+_, _/_, _%_, _<_, _≤_}
 use native.Mathlib.Nat.{div-add-mod'}
 use native.Mathlib.Numerals.{add-one}

@@ -1,5 +1,4 @@
 -- Text put into a buffer, byte behind byte. A page is the buffer and the place up to which it is written; what does not fit is left off.
--- Assumes nothing.
 use Prim.Native.Nat.{ℕ, _+_, min}
 use mathlib.Core.Bool.{cond}
 use mathlib.Core.List.{List, [], _∷_, _++_}

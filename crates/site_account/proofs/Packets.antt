@@ -1,11 +1,11 @@
 -- Packets without their bytes: the flows and the lengths are all that the numbers of demand 3 are made of.
 use Prim.Native.Nat.{ℕ, _+_, max}
 use mathlib.Core.Path.{_≡_, refl, sym, ap, _∙_}
-use mathlib.Core.List.{List, [], _∷_, _++_, map}
+use mathlib.Core.List.{List, [], _∷_, _++_, map, map-append}
 use mathlib.Core.Bool.{Bool, true, false, cond}
 use native.Mathlib.Omega.{arith}
 use native.Mathlib.Decide.{ℕ-discrete}
-use lib.ListN.{length}
+use lib.ListN.{length, length-map}
 use lib.Dec.{eqb}
 use borrow.Author.Tests.{eq-eqb, ne-eqb}
 use Rattle.err.specs.Chain.{Packet as SizedPacket, packetsOf}
@@ -19,12 +19,10 @@ abbrev pub sized : List Packet → List SizedPacket
 sized l = map (λ (p : Packet). record { flow = p .flow; size = length (p .bytes) }) l
 
 pub sized-append : (a b : List Packet) → sized (a ++ b) ≡ sized a ++ sized b
-sized-append [] b = refl
-sized-append (p ∷ a) b = ap (λ (l : List SizedPacket). record { flow = p .flow; size = length (p .bytes) } ∷ l) (sized-append a b)
+sized-append a b = map-append _ a b
 
 pub packets-append : (a b : List Sent) → packetsOf (a ++ b) ≡ packetsOf a ++ packetsOf b
-packets-append [] b = refl
-packets-append (d ∷ a) b = ap (λ (l : List SizedPacket). record { flow = d .flow; size = d .size } ∷ l) (packets-append a b)
+packets-append a b = map-append _ a b
 
 -- ---- how many bytes, how long the longest, how many packets
 
@@ -70,14 +68,6 @@ unfolding largest largestIn
 largest-packets [] = refl
 largest-packets (d ∷ l) = ap (max (d .size)) (largest-packets l)
 
-count-sized : (l : List Packet) → length l ≡ length (sized l)
-count-sized [] = refl
-count-sized (p ∷ l) = omega (arith, count-sized l)
-
-count-packets : (l : List Sent) → length l ≡ length (packetsOf l)
-count-packets [] = refl
-count-packets (d ∷ l) = omega (arith, count-packets l)
-
 -- Packets that have, in order, the flows and the sizes that departures tell.
 module _ (l : List Packet) (sent : List Sent) (agree : sized l ≡ packetsOf sent) where
   pub same-bytes : (f : ℕ) → inAll (bytesOf f l) ≡ sumOf f bytes sent
@@ -87,4 +77,4 @@ module _ (l : List Packet) (sent : List Sent) (agree : sized l ≡ packetsOf sen
   same-longest = longest-sized l ∙ ap largestIn agree ∙ sym (largest-packets sent)
 
   pub same-count : length l ≡ length sent
-  same-count = count-sized l ∙ ap length agree ∙ sym (count-packets sent)
+  same-count = sym (length-map l _) ∙ ap length agree ∙ length-map sent _

@@ -3,7 +3,7 @@ use Prim.Native.Nat.{ℕ, _+_, _*_, _-_, _≤_}
 use mathlib.Core.Path.{_≡_, refl, sym, ap, _∙_, subst}
 use mathlib.Core.List.{List, [], _∷_}
 use native.Mathlib.Omega.{arith}
-use lib.ListN.{length, getD, replicate, length-replicate}
+use lib.ListN.{length, getD}
 use Rattle.err.specs.Model.{flowAt}
 use Rattle.err.specs.Chain.{History}
 use Rattle.account.specs.Stretch.{Stretch, sumOf, bytes, onePlusMark, largest, oneByOne}
@@ -92,10 +92,3 @@ module _ (first : List ℕ) (whole : length first ≡ storeLength) where
         turns-of-first = turns 0 (bound-is-reached .first-waits) (bound-is-reached .turns-of-first);
         first-account = (λ i. bytes-are 0 i ∷ before-is 0 i ∷ after-is 0 i ∷ weight-is 0 i ∷ marks-are 0 i ∷ []) ∙ bound-is-reached .first-account;
       }
-
--- A store of zeros is such a store.
-pub zeros-whole : length {A = ℕ} (replicate storeLength 0) ≡ storeLength
-zeros-whole = length-replicate {A = ℕ} storeLength 0
-
-pub bound-is-reached-from-zeros : SiteReaches (siteReaching (replicate storeLength 0) zeros-whole)
-bound-is-reached-from-zeros = bound-is-reached-on-bytes (replicate storeLength 0) zeros-whole

@@ -1,14 +1,14 @@
 -- Each call balances on bytes: for each flow, what waited and what the call accepts are what leaves and what waits then.
 use Prim.Native.Nat.{ℕ, zero, suc, _≤_, _<_}
-use mathlib.Core.Path.{_≡_, refl, sym, ap, ap₂, _∙_, subst}
+use mathlib.Core.Path.{_≡_, refl, sym, ap, ap₂, _∙_}
 use mathlib.Core.List.{List, [], _∷_, _++_, map, append-nil}
 use native.Mathlib.Omega.{arith}
-use native.Mathlib.Decide.{decLt, ℕ-discrete}
-use lib.ListN.{length, getD, take, drop, replicate, getD-replicate, length-replicate, List·getD-eq-default}
+use native.Mathlib.Decide.{decLt}
+use lib.ListN.{length, take, drop}
 use lib.Seq.{take-at}
 use Rattle.err.specs.Limits.{flowLimit, queueLimit, sizeLimit}
 use Rattle.err.specs.Choose.{ifZero}
-use Rattle.err.specs.Model.{Flow, Scheduler, closedFlow, flowAt, newScheduler}
+use Rattle.err.specs.Model.{Flow, Scheduler, flowAt, newScheduler}
 use Rattle.err.specs.Steps.{packetJoined, flowLined}
 use Rattle.err.specs.Calls.{put, openFlow, opened, openRefusal, offered, offerRefusal, departed, unlessRefused}
 use Rattle.err.specs.Replies.{sentBy}
@@ -16,7 +16,7 @@ use Rattle.err.specs.Rules.{Rules}
 use Rattle.err.specs.declared.Reply.{Reply}
 use Rattle.err.specs.declared.Reply.the-variants.{Departure, Idle, Refused}
 use Rattle.err.specs.declared.Sent.{Sent}
-use Rattle.err.proofs.Flows.{at-put, at-others, first-in-range}
+use Rattle.err.proofs.Flows.{at-others, first-in-range, here-now, beyond-closed}
 use Rattle.err.proofs.Refusals.{MayOpen, may-open, MayOffer, may-offer}
 use Rattle.store.specs.Slots.{storeLength, nextSlotOf, written, held}
 use Rattle.store.specs.Calls.{AfterOffer, AfterDeparture, storeOffer, storeOfferRefusal, storeDepart, storeDepartRefusal}
@@ -26,6 +26,7 @@ use Rattle.store.proofs.CallLaws.{offer-may, offer-state, offer-refused
 use Rattle.err.proofs.Departing.{Leaves, departed-leaves, idle-stays, never-refused}
 use Rattle.err.proofs.Choosing.{zero-chosen}
 use Rattle.err.proofs.Keeps.{new-closed}
+use Rattle.err.proofs.Line.{same-or-other}
 use Rattle.store.proofs.Lending.{lent-length, lent-whole, back-whole, back-untouched}
 use Rattle.store.proofs.WaitingLaws.{waiting-over-another-flow, waiting-with-one-more, bytes-of-own, bytes-of-another}
 
@@ -65,13 +66,11 @@ storedIn s store f packet = written store f (nextSlotOf (flowAt s f)) packet
 module _ (s : Scheduler) (R : Rules s) (store : List ℕ) (f weight : ℕ) where
   open-waits : MayOpen f weight (flowAt s f) → (g : ℕ) → waitingBytes (openedIn s f weight) store g ≡ waitingBytes s store g
   open-waits may g =
-      elim (ℕ-discrete g f) [
-        | yes e ↦ subst (λ (h : ℕ). waitingBytes (openedIn s f weight) store h ≡ waitingBytes s store h) (sym e) here
-        | no d ↦ same-flow (openedIn s f weight) s store g (at-others s f (openFlow weight) (s .round) g d)
-      ]
+      same-or-other (λ h. waitingBytes (openedIn s f weight) store h ≡ waitingBytes s store h) f g here
+      (λ d. same-flow (openedIn s f weight) s store g (at-others s f (openFlow weight) (s .round) g d))
     where
       opened-empty : flowAt (openedIn s f weight) f .queue ≡ []
-      opened-empty = ap (λ (x : Flow). x .queue) (at-put s f (openFlow weight) (s .round) (omega (arith, R .all-flows, may .flow-in-range)))
+      opened-empty = ap (λ (x : Flow). x .queue) (here-now s R (may .flow-in-range) (openFlow weight) (s .round))
 
       here : waitingBytes (openedIn s f weight) store f ≡ waitingBytes s store f
       here = nobody (openedIn s f weight) store f opened-empty ∙ sym (nobody s store f (R .flow-rules f .open-if-waiting (may .not-open)))
@@ -95,7 +94,7 @@ module _ (s : Scheduler) (R : Rules s) (store : List ℕ) (whole : length store 
 
   flow-joined : flowAt (joinedIn s f (length packet)) f ≡ packetJoined (flowAt s f) (length packet)
   flow-joined =
-      at-put s f (packetJoined (flowAt s f) (length packet)) (flowLined (s .round) f (flowAt s f)) (omega (arith, R .all-flows, may .flow-in-range))
+      here-now s R (may .flow-in-range) (packetJoined (flowAt s f) (length packet)) (flowLined (s .round) f (flowAt s f))
 
   join-own : waitingBytes (joinedIn s f (length packet)) (storedIn s store f packet) f ≡ waitingBytes s store f ++ (packet ∷ [])
   unfolding waitingBytes packetJoined
@@ -106,7 +105,7 @@ module _ (s : Scheduler) (R : Rules s) (store : List ℕ) (whole : length store 
 
   -- The packets of another flow lie where they lay; a number that no flow has stands for a flow with none.
   beyond : (g : ℕ) → flowLimit ≤ g → flowAt s g .queue ≡ []
-  beyond g h = ap (λ (x : Flow). x .queue) (List·getD-eq-default (s .flows) closedFlow {n = g} (omega (arith, R .all-flows)))
+  beyond g h = ap (λ (x : Flow). x .queue) (beyond-closed s (R .all-flows) g h)
 
   others-lie : (g : ℕ) → (g ≡ f → ⊥) → waitingBytes s (storedIn s store f packet) g ≡ waitingBytes s store g
   unfolding waitingBytes
@@ -127,15 +126,14 @@ module _ (s : Scheduler) (R : Rules s) (store : List ℕ) (whole : length store 
   join-waits : (g : ℕ) → waitingBytes s store g ++ bytesOf g (record { flow = f; bytes = packet } ∷ [])
       ≡ waitingBytes (joinedIn s f (length packet)) (storedIn s store f packet) g
   join-waits g =
-      elim (ℕ-discrete g f) [
-        | yes e ↦
-            ap (λ (l : List (List ℕ)). waitingBytes s store g ++ l) (bytes-of-own f g packet e)
-            ∙ subst (λ (h : ℕ). waitingBytes s store h ++ (packet ∷ []) ≡ waitingBytes (joinedIn s f (length packet)) (storedIn s store f packet) h) (sym e) (sym join-own)
-        | no d ↦
-            ap (λ (l : List (List ℕ)). waitingBytes s store g ++ l) (bytes-of-another f g packet d)
-            ∙ append-nil (waitingBytes s store g)
-            ∙ sym (join-another g d)
-      ]
+      same-or-other
+      (λ h. waitingBytes s store h ++ bytesOf h (record { flow = f; bytes = packet } ∷ []) ≡ waitingBytes (joinedIn s f (length packet)) (storedIn s store f packet) h)
+      f g
+      (ap (λ (l : List (List ℕ)). waitingBytes s store f ++ l) (bytes-of-own f packet) ∙ sym join-own)
+      (λ d.
+      ap (λ (l : List (List ℕ)). waitingBytes s store g ++ l) (bytes-of-another f g packet d)
+      ∙ append-nil (waitingBytes s store g)
+      ∙ sym (join-another g d))
 
   join-balances : Balances s store (record { flow = f; bytes = packet } ∷ []) [] (joinedIn s f (length packet)) (storedIn s store f packet)
   unfolding bytesOf
@@ -191,14 +189,11 @@ module _ (s : Scheduler) (store : List ℕ) (d : Sent) (t : Scheduler) (L : Leav
 
   leave-waits : (g : ℕ) → waitingBytes s store g ≡ bytesOf g (record { flow = d .flow; bytes = firstHeld s store d } ∷ []) ++ waitingBytes t store g
   leave-waits g =
-      elim (ℕ-discrete g (d .flow)) [
-        | yes e ↦
-            subst (λ (h : ℕ). waitingBytes s store h ≡ firstHeld s store d ∷ waitingBytes t store h) (sym e) leave-own
-            ∙ ap (λ (l : List (List ℕ)). l ++ waitingBytes t store g) (sym (bytes-of-own (d .flow) g (firstHeld s store d) e))
-        | no n ↦
-            same-flow s t store g (sym (L .others-stay g n))
-            ∙ ap (λ (l : List (List ℕ)). l ++ waitingBytes t store g) (sym (bytes-of-another (d .flow) g (firstHeld s store d) n))
-      ]
+      same-or-other (λ h. waitingBytes s store h ≡ bytesOf h (record { flow = d .flow; bytes = firstHeld s store d } ∷ []) ++ waitingBytes t store h) (d .flow) g
+      (leave-own ∙ ap (λ (l : List (List ℕ)). l ++ waitingBytes t store (d .flow)) (sym (bytes-of-own (d .flow) (firstHeld s store d))))
+      (λ n.
+      same-flow s t store g (sym (L .others-stay g n))
+      ∙ ap (λ (l : List (List ℕ)). l ++ waitingBytes t store g) (sym (bytes-of-another (d .flow) g (firstHeld s store d) n)))
 
   leave-balances : Balances s store [] (record { flow = d .flow; bytes = firstHeld s store d } ∷ []) t store
   unfolding bytesOf

@@ -18,7 +18,7 @@ use Rattle.store.proofs.Lending.{lent-length, store-keeps-length}
 -- One call on two stores of the same length.
 module _ (s : Scheduler) (a b : List ℕ) (same : length a ≡ length b) where
   -- Two packets of one size are accepted or refused alike.
-  pub offer-blind : (f : ℕ) (p q : List ℕ) → length p ≡ length q
+  offer-blind : (f : ℕ) (p q : List ℕ) → length p ≡ length q
       → (storeOffer s f p a .state ≡ storeOffer s f q b .state) × (storeOffer s f p a .answer ≡ storeOffer s f q b .answer)
   unfolding storeOffer
   offer-blind f p q sizes =
@@ -26,7 +26,7 @@ module _ (s : Scheduler) (a b : List ℕ) (same : length a ≡ length b) where
       ap₂ (λ (n m : ℕ). cond (eqb n storeLength) (offerRefusal f m (flowAt s f)) 8) same sizes in
       (ap₂ (λ (n m : ℕ). ifZero n (offered s f m .state) s) number sizes, ap answerOf number)
 
-  pub depart-blind : (out more : List ℕ) → length out ≡ length more
+  depart-blind : (out more : List ℕ) → length out ≡ length more
       → (storeDepart s a out .state ≡ storeDepart s b more .state) × (storeDepart s a out .reply ≡ storeDepart s b more .reply)
   unfolding storeDepart
   depart-blind out more sizes =

@@ -70,7 +70,7 @@ module _ (s : Scheduler) (store out : List ℕ) where
   pub depart-wrong-store : (length store ≡ storeLength → ⊥) → storeDepartRefusal store out ≡ 8
   depart-wrong-store d = ap (λ (t : Bool). cond t (cond (ltb (length out) outLimit) 7 0) 8) (ne-eqb (length store) storeLength d)
 
-  pub depart-right-store : length store ≡ storeLength → storeDepartRefusal store out ≡ cond (ltb (length out) outLimit) 7 0
+  depart-right-store : length store ≡ storeLength → storeDepartRefusal store out ≡ cond (ltb (length out) outLimit) 7 0
   depart-right-store e = ap (λ (t : Bool). cond t (cond (ltb (length out) outLimit) 7 0) 8) (eq-eqb (length store) storeLength e)
 
   pub depart-short-out : length store ≡ storeLength → length out < outLimit → storeDepartRefusal store out ≡ 7

@@ -1,10 +1,9 @@
 -- The site that a call gives back stands for the scheduler that the definitions' call gives. So a chain of calls of the code, each on the site and the
 -- store that the one before it left, goes as the chains of `specs/Chain`.
-use Prim.Native.Nat.{ℕ, zero, suc}
-use mathlib.Core.Path.{_≡_, ap, _∙_}
+use Prim.Native.Nat.{ℕ}
+use mathlib.Core.Path.{_≡_, ap}
 use mathlib.Core.List.{List}
 use lib.ListN.{length}
-use Rattle.err.specs.Choose.{ifZero}
 use Rattle.err.specs.Model.{Scheduler, newScheduler}
 use Rattle.err.specs.Calls.{opened, offered, departed}
 use Rattle.err.specs.Rules.{Rules}

@@ -1,21 +1,20 @@
 -- On the scheduler a chain of store calls is a chain of the order layer's calls: what is proved of every such chain, demand 3 with it, holds of store
 -- calls too.
-use Prim.Native.Nat.{ℕ, zero, suc}
+use Prim.Native.Nat.{ℕ}
 use mathlib.Core.Path.{_≡_, refl, sym, ap, _∙_}
-use mathlib.Core.List.{List, [], _∷_, _++_}
+use mathlib.Core.List.{List, [], _∷_}
 use mathlib.Core.Bool.{Bool, true, false, cond}
 use lib.ListN.{length}
 use lib.Dec.{eqb, ltb}
 use Rattle.err.specs.Choose.{ifZero}
-use Rattle.err.specs.Model.{Scheduler, flowAt, newScheduler}
+use Rattle.err.specs.Model.{Scheduler, flowAt}
 use Rattle.err.specs.Calls.{offered, departed, unlessRefused, offerRefusal}
-use Rattle.err.specs.Chain.{Call, after}
 use Rattle.err.specs.Chain as SizeCall
 use Rattle.err.proofs.Chains.{chain-append}
 use Rattle.err.proofs.Choosing.{chosen-twice}
 use Rattle.store.specs.Slots.{storeLength, outLimit}
 use Rattle.store.specs.Calls.{storeOffer, storeDepart}
-use Rattle.store.specs.Chain.{StoreCall, resetting, opening, offering, departing, lent, stateAfter, History, start, next, chain, onSizes, allOnSizes}
+use Rattle.store.specs.Chain.{StoreCall, resetting, opening, offering, departing, stateAfter, History, start, next, chain, onSizes, allOnSizes}
 use Rattle.store.proofs.Lending.{lent-length}
 
 -- Where the order layer refuses an offer its state is as before, so it does not matter that the store layer asks first.

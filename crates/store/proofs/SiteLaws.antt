@@ -16,7 +16,7 @@ use Rattle.err.specs.declared.Reply.the-variants.{Departure, Refused}
 use Rattle.err.specs.declared.Sent.{Sent}
 use Rattle.err.proofs.Flows.{at-put, first-in-range}
 use Rattle.err.proofs.Refusals.{MayOffer, may-offer}
-use Rattle.order.specs.Encoding.{viewFlow, Sound}
+use Rattle.order.specs.Encoding.{viewFlow}
 use Rattle.order.specs.Premises.{FlowReady}
 use Rattle.order.specs.Promised as order
 use Rattle.order.specs.declared.Answered.{Answered}
@@ -81,7 +81,7 @@ module _ (site : Site) (S : SoundSite site) where
   site-form = ap (λ (o : State). record { order = o }) (S .form)
 
   -- A flow's cell stands for the flow.
-  pub cell-of : (f : ℕ) → f < flowLimit → viewFlow (getD (site .order .flows) f noCell) ≡ flowAt s f
+  cell-of : (f : ℕ) → f < flowLimit → viewFlow (getD (site .order .flows) f noCell) ≡ flowAt s f
   unfolding schedulerOf
   cell-of f h = cell-seen (site .order) S f h
 
@@ -140,7 +140,7 @@ module _ (site : Site) (S : SoundSite site) where
           (done-number (offerRefusal f (length packet) (flowAt s f)) (sym answer-is ∙ e))
           ∙ at-put s f (packetJoined (flowAt s f) (length packet)) (flowLined (s .round) f (flowAt s f)) (omega (arith, S .rules .all-flows))
 
-      pub slot-taken : a .answer ≡ Done → slotBefore (nextSlotOf (viewFlow (getD (a .state .flows) f noCell))) ≡ nextSlotOf (flowAt s f)
+      slot-taken : a .answer ≡ Done → slotBefore (nextSlotOf (viewFlow (getD (a .state .flows) f noCell))) ≡ nextSlotOf (flowAt s f)
       unfolding packetJoined
       slot-taken e =
           ap (λ (x : Flow). slotBefore (nextSlotOf x)) (joined-is e)

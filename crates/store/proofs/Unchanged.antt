@@ -3,8 +3,8 @@ use Prim.Native.Nat.{ℕ, zero, suc}
 use mathlib.Core.Path.{_≡_, refl, sym, ap, _∙_}
 use mathlib.Core.List.{List, [], _∷_}
 use native.Mathlib.Omega.{arith}
-use Rattle.err.specs.Model.{Scheduler, flowAt}
-use Rattle.err.specs.Calls.{opened, openRefusal, departed, unlessRefused}
+use Rattle.err.specs.Model.{Scheduler}
+use Rattle.err.specs.Calls.{opened, departed}
 use Rattle.err.specs.Replies.{sentBy}
 use Rattle.err.specs.declared.Answer.the-variants.{Refused as AnswerRefused}
 use Rattle.err.specs.declared.Reply.{Reply}

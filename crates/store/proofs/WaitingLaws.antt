@@ -44,9 +44,9 @@ bytes-append f (p ∷ l) m =
     ap (λ (x : List (List ℕ)). cond (eqb (p .flow) f) (p .bytes ∷ []) [] ++ x) (bytes-append f l m)
     ∙ sym (append-assoc (cond (eqb (p .flow) f) (p .bytes ∷ []) []) (bytesOf f l) (bytesOf f m))
 
-pub bytes-of-own : (f g : ℕ) (packet : List ℕ) → g ≡ f → bytesOf g (record { flow = f; bytes = packet } ∷ []) ≡ packet ∷ []
+pub bytes-of-own : (f : ℕ) (packet : List ℕ) → bytesOf f (record { flow = f; bytes = packet } ∷ []) ≡ packet ∷ []
 unfolding bytesOf
-bytes-of-own f g packet e = ap (λ (t : Bool). cond t (packet ∷ []) [] ++ []) (eq-eqb f g (sym e))
+bytes-of-own f packet = ap (λ (t : Bool). cond t (packet ∷ []) [] ++ []) (eq-eqb f f refl)
 
 pub bytes-of-another : (f g : ℕ) (packet : List ℕ) → (g ≡ f → ⊥) → bytesOf g (record { flow = f; bytes = packet } ∷ []) ≡ []
 unfolding bytesOf

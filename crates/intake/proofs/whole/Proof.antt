@@ -1,5 +1,5 @@
 -- `intake::whole` meets its contract. The loop's invariant: the place lies within the buffer, which keeps its length. The measure is the room that
--- is left. Assumes nothing.
+-- is left.
 use borrow.Author.Needs.{needs}
 use Prim.Native.Nat.{_≤_, _-_}
 use mathlib.Core.Path.{_≡_}

@@ -1,5 +1,4 @@
 -- `lines::digit_at` meets its contract: at each `return` the tests that led there say which case of `digitAt` holds.
--- Assumes nothing.
 use borrow.Author.Needs.{needs}
 use borrow.Author.Tests.{lt-ltb, le-ltb, le-leb, lt-leb}
 use Rattle.lines.specs.Number.{digitAt}

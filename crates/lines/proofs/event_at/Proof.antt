@@ -1,5 +1,4 @@
 -- `lines::event_at` meets its contract: at each `return`, what the callees answered says which case of the definition holds.
--- Assumes nothing.
 use mathlib.Core.Path.{sym}
 use borrow.Author.Needs.{needs}
 use Rattle.lines.proofs.Steps.{alike, event-flow, event-arrive, event-send, no-event}

@@ -1,5 +1,4 @@
 -- `lines::field_at` meets its contract: at each `return`, what the callees answered says which case of the definition holds.
--- Assumes nothing.
 use mathlib.Core.Path.{sym, _∙_}
 use borrow.Author.Needs.{needs}
 use Rattle.lines.proofs.Steps.{alike, field-read, field-without-word}

@@ -1,5 +1,4 @@
 -- `lines::line_at` meets its contract: at each `return`, what the callees answered says which case of the definition holds.
--- Assumes nothing.
 use mathlib.Core.Path.{sym}
 use borrow.Author.Needs.{needs}
 use Rattle.lines.proofs.Steps.{alike, line-read, line-without-event, line-without-feed}

@@ -1,5 +1,4 @@
 -- `lines::number_at` meets its contract: at each `return` the tests that led there say which case of `numberAt` holds.
--- Assumes nothing.
 use mathlib.Core.Path.{sym, _∙_}
 use borrow.Author.Needs.{needs}
 use borrow.Author.Tests.{eq-eqb, ne-eqb, lt-ltb, le-ltb}

@@ -1,5 +1,4 @@
 -- `lines::pair_at` meets its contract: at each `return`, what the callees answered says which case of the definition holds.
--- Assumes nothing.
 use mathlib.Core.Path.{sym}
 use borrow.Author.Needs.{needs}
 use Rattle.lines.proofs.Steps.{alike, pair-read, pair-without-first, pair-without-second}

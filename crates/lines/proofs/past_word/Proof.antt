@@ -1,5 +1,5 @@
 -- `lines::past_word` meets its contract. The loop's invariant: the whole word from `at` is what is left of the word from `past`.
--- The measure is what is left of the word. Assumes nothing.
+-- The measure is what is left of the word.
 use mathlib.Core.Path.{_≡_, sym, _∙_}
 use Prim.Native.Nat.{_≤_, _-_}
 use borrow.Author.Needs.{needs}

@@ -1,5 +1,4 @@
 -- `lines::stands` meets its contract: the test of the length says which half of the definition holds.
--- Assumes nothing.
 use borrow.Author.Needs.{needs}
 use borrow.Author.Tests.{lt-ltb, le-ltb}
 use Rattle.lines.specs.Number.{stands}

@@ -1,4 +1,4 @@
--- `play::play` meets its contract: too long an input is one bad line, and any other is replayed. Assumes nothing.
+-- `play::play` meets its contract: too long an input is one bad line, and any other is replayed.
 use borrow.Author.Needs.{needs}
 use Rattle.print.proofs.PageLaws.{printed}
 use Rattle.play.proofs.PlayLaws.{too-long-told}

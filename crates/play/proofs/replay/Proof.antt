@@ -1,5 +1,5 @@
 -- `play::replay` meets its contract. The loop's invariant: what is left of the replay leads to the whole transcript. The measure is what is left
--- of the input. Assumes nothing.
+-- of the input.
 use borrow.Author.Needs.{needs}
 use Prim.Native.Nat.{_-_}
 use mathlib.Core.Path.{sym, _∙_}

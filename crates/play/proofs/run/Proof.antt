@@ -1,4 +1,4 @@
--- `play::run` meets its contract: each arm does what its event says. Assumes nothing.
+-- `play::run` meets its contract: each arm does what its event says.
 use borrow.Author.Needs.{needs}
 use Rattle.play.proofs.CourseLaws.{open-goes, offer-goes, send-fits, send-happens}
 use Rattle.play.proofs.run.Statement.{statement}

@@ -1,5 +1,4 @@
 -- `play::send` meets its contract. The loop's invariant: what is left to send leads where the whole does. The measure is what is left.
--- Assumes nothing.
 use borrow.Author.Needs.{needs}
 use native.Mathlib.Omega.{arith}
 use Rattle.order.specs.Encoding.{view}

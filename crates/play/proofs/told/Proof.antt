@@ -1,4 +1,4 @@
--- `play::told` meets its contract. Assumes nothing.
+-- `play::told` meets its contract.
 use borrow.Author.Needs.{needs}
 use Rattle.play.proofs.StoryLaws.{nothing-told, refusal-told}
 use Rattle.play.proofs.told.Statement.{statement}

@@ -1,4 +1,4 @@
--- `print::decimal` meets its contract. The measure is the number, and a tenth of it is less. Assumes nothing.
+-- `print::decimal` meets its contract. The measure is the number, and a tenth of it is less.
 use Prim.Native.Nat.{ℕ, _<_}
 use native.Mathlib.Omega.{arith}
 use borrow.Author.Needs.{needs}

@@ -1,4 +1,4 @@
--- `print::byte` meets its contract: it stores where there is room. Assumes nothing.
+-- `print::byte` meets its contract: it stores where there is room.
 use borrow.Author.Needs.{needs}
 use Rattle.print.proofs.PageLaws.{byte-fits, byte-left-off}
 use Rattle.print.proofs.byte.Statement.{statement}

@@ -1,4 +1,4 @@
--- `print::field` meets its contract. Assumes nothing.
+-- `print::field` meets its contract.
 use borrow.Author.Needs.{needs}
 use Rattle.print.proofs.PageLaws.{put-behind}
 use Rattle.print.proofs.field.Statement.{statement}

@@ -1,5 +1,5 @@
 -- `print::word` meets its contract. The loop's invariant: what is left of the word, put behind what was put, is the whole word put.
--- The measure is what is left of the word. Assumes nothing.
+-- The measure is what is left of the word.
 use Prim.Native.Nat.{_≤_, _-_}
 use borrow.Author.Needs.{needs}
 use mathlib.Core.Path.{_≡_, refl, sym, _∙_}

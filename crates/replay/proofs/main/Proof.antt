@@ -1,4 +1,4 @@
--- `replay::main` meets its contract: the parts that it lends lie within the buffers. Assumes nothing.
+-- `replay::main` meets its contract: the parts that it lends lie within the buffers.
 use borrow.Author.Needs.{needs}
 use Rattle.io.proofs.Counting.{counts}
 use Rattle.play.proofs.Lengths.{count-within}

@@ -1,4 +1,4 @@
--- `vectors::agrees` meets its contract: the parts that it lends lie within the buffers. Assumes nothing.
+-- `vectors::agrees` meets its contract: the parts that it lends lie within the buffers.
 use borrow.Author.Needs.{needs}
 use Rattle.intake.proofs.Lent.{lent}
 use Rattle.io.proofs.Counting.{counts}

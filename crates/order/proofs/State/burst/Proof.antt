@@ -3,7 +3,7 @@ use native.Mathlib.Omega.{arith}
 use borrow.Author.Needs.{needs}
 use Rattle.order.proofs.StateLaws.{round-of-sound, at-in-reach, may-visit, departed-state, departed-reply}
 use Rattle.order.proofs.BurstLaws.{Underway, underway-first, one-more-made, all-made, stopped, burst-refused}
-use mathlib.Core.Path.{_≡_, refl, sym, _∙_}
+use mathlib.Core.Path.{refl, sym, _∙_}
 use Prim.Native.Nat.{_-_}
 use lib.ListN.{set}
 use Rattle.order.specs.Encoding.{view}

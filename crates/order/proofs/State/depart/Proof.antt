@@ -1,7 +1,7 @@
 -- One visit, and its flow is put back.
 use borrow.Author.Needs.{needs}
 use native.Mathlib.Omega.{arith}
-use mathlib.Core.Path.{_≡_, refl, sym, ap, _∙_}
+use mathlib.Core.Path.{refl}
 use Rattle.order.proofs.StateLaws.{round-of-sound, at-in-reach, may-visit, departed-gives}
 use Rattle.order.proofs.State.depart.Statement.{statement}
 use Rattle.order.proofs.State.depart.Tie as tie

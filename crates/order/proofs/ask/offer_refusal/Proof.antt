@@ -2,7 +2,6 @@
 use Rattle.order.specs.Encoding.{viewFlow}
 use borrow.Author.Tests.{le-leb, lt-leb, lt-ltb, le-ltb, eq-eqb, ne-eqb}
 use Rattle.order.proofs.Encoded.{waiting-is}
-use mathlib.Core.Path.{_≡_, sym}
 use Rattle.order.proofs.ask.offer_refusal.Statement.{statement}
 use Rattle.order.proofs.ask.offer_refusal.Tie as tie
 

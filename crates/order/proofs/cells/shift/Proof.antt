@@ -1,6 +1,6 @@
 -- The loop moves the bytes down one by one.
 use Prim.Native.Nat.{ℕ, suc, _+_, _-_, _≤_}
-use mathlib.Core.Path.{_≡_, refl, sym, ap, _∙_}
+use mathlib.Core.Path.{_≡_, ap, _∙_}
 use native.Mathlib.Omega.{arith}
 use borrow.Author.Needs.{needs}
 use mathlib.Core.List.{List}
@@ -8,8 +8,6 @@ use lib.ListN.{length, set, getD, length-set}
 use Rattle.order.proofs.Shifting.{movedDown, one-more-moves, all-moved}
 use Rattle.order.proofs.cells.shift.Statement.{statement}
 use Rattle.order.proofs.cells.shift.Tie as tie
-use Rattle.order.proofs.cells.shift.Reads as reads
-use Rattle.order.proofs.cells.shift.Lts as lts
 
 abbrev Inv-loop : tie.InvT-loop
 Inv-loop cells₀ last i₀ cells i = (i ≤ last) × (suc last ≡ length cells₀) × (length cells ≡ length cells₀) × (cells ≡ movedDown cells₀ i)

@@ -2,7 +2,6 @@
 use native.Mathlib.Omega.{arith}
 use borrow.Author.Needs.{needs}
 use native.Mathlib.Nat.{mul-le-mul}
-use mathlib.Core.Path.{_≡_}
 use Rattle.order.proofs.round.allowance.Statement.{statement}
 use Rattle.order.proofs.round.allowance.Tie as tie
 

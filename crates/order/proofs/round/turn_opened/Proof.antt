@@ -1,6 +1,5 @@
 -- The flows behind the head move down.
 use borrow.Author.Needs.{needs}
-use native.Mathlib.Omega.{arith}
 use Rattle.order.proofs.RoundLaws.{turn-opened-law}
 use Rattle.order.specs.Encoding.{held}
 use denote.Ref.{now}

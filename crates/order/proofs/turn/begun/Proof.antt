@@ -1,5 +1,5 @@
 -- The round is started where due, the head leaves the line, and its turn is served.
-use mathlib.Core.Path.{_≡_, refl, sym, ap, _∙_}
+use mathlib.Core.Path.{refl}
 use lib.ListN.{getD}
 use Rattle.order.proofs.BeginLaws.{now-ready, now-some, may-allow, may-serve, begun-law}
 use Rattle.order.specs.Encoding.{held}

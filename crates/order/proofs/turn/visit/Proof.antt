@@ -1,6 +1,6 @@
 -- One law for each case of the turn.
 use borrow.Author.Needs.{needs}
-use mathlib.Core.Path.{_≡_, refl, sym, ap, _∙_}
+use mathlib.Core.Path.{sym, ap, _∙_}
 use Rattle.order.proofs.BeginLaws.{turn-law, head-law, idle-law}
 use Rattle.order.specs.Encoding.{held}
 use denote.Ref.{now}

@@ -1,6 +1,6 @@
 -- The flow of the turn, or the first cell of the line.
 use borrow.Author.Needs.{needs}
-use mathlib.Core.Path.{_≡_, refl, sym, ap, _∙_}
+use mathlib.Core.Path.{_∙_}
 use Rattle.order.proofs.BeginLaws.{whose-turn, whose-head}
 use Rattle.order.specs.Encoding.{held}
 use Rattle.order.proofs.turn.whose.Statement.{statement}

@@ -1,4 +1,4 @@
--- `play::report::bad_line` meets its contract. Assumes nothing.
+-- `play::report::bad_line` meets its contract.
 use borrow.Author.Needs.{needs}
 use Rattle.play.proofs.ReportLaws.{bad-told}
 use Rattle.play.proofs.report.bad_line.Statement.{statement}

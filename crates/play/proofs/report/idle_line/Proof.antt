@@ -1,4 +1,4 @@
--- `play::report::idle_line` meets its contract. Assumes nothing.
+-- `play::report::idle_line` meets its contract.
 use borrow.Author.Needs.{needs}
 use Rattle.play.proofs.ReportLaws.{idle-told}
 use Rattle.play.proofs.report.idle_line.Statement.{statement}

@@ -1,4 +1,4 @@
--- `play::report::refused_line` meets its contract. Assumes nothing.
+-- `play::report::refused_line` meets its contract.
 use borrow.Author.Needs.{needs}
 use Rattle.play.proofs.ReportLaws.{refused-told}
 use Rattle.play.proofs.report.refused_line.Statement.{statement}

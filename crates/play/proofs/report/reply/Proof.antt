@@ -1,4 +1,4 @@
--- `play::report::reply` meets its contract: each field is put behind the one before it. Assumes nothing.
+-- `play::report::reply` meets its contract: each field is put behind the one before it.
 use borrow.Author.Needs.{needs}
 use Rattle.play.proofs.ReportLaws.{reply-told}
 use Rattle.play.proofs.report.reply.Statement.{statement}

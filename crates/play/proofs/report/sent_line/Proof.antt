@@ -1,4 +1,4 @@
--- `play::report::sent_line` meets its contract. Assumes nothing.
+-- `play::report::sent_line` meets its contract.
 use borrow.Author.Needs.{needs}
 use Rattle.play.proofs.ReportLaws.{sent-told}
 use Rattle.play.proofs.report.sent_line.Statement.{statement}
