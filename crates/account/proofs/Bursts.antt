@@ -17,7 +17,7 @@ use Rattle.err.specs.declared.Serving.the-variants.{NoTurn, Turn}
 use Rattle.err.specs.declared.Count.{Count}
 use Rattle.err.specs.declared.Count.the-variants.{Refused as CountRefused}
 use Rattle.err.proofs.Departing.{SendsOrStays, sends, stays, sends-or-stays}
-use Rattle.err.proofs.Chains.{chain-append, departures-singly as singly-chained}
+use Rattle.err.proofs.Chains.{chain-append, single-calls-make-departures}
 use Rattle.account.specs.Stretch.{Waiting, WaitingAfterEvery, sentIn, turnThen, turnsOf, completing, turnsIn, singly, oneByOne}
 use Rattle.account.proofs.Runs.{waited-before-all}
 
@@ -95,11 +95,11 @@ module _ (n : ℕ) (t : Scheduler) (accepted : List Packet) (left : List Sent) w
 
 departures-singly : (n : ℕ) (h : History) → Singles n h
 unfolding chain next after accepting leaving sentIn turnsIn completing departures turnsOf
-departures-singly zero h = record { history-given = singly-chained zero h; sent-given = refl; turns-given = refl }
+departures-singly zero h = record { history-given = single-calls-make-departures zero h; sent-given = refl; turns-given = refl }
 departures-singly (suc n) h =
     let all = following n (departed (h .state) .state) (h .accepted) (h .left) (departed (h .state) .reply) (departed (h .state) .state .round .turn)
     (departures-singly n (next h departing)) (still-after n (h .state)) in
-    record { history-given = singly-chained (suc n) h; sent-given = all .then-sent; turns-given = all .then-turns }
+    record { history-given = single-calls-make-departures (suc n) h; sent-given = all .then-sent; turns-given = all .then-turns }
 
 -- Who waits after a burst waits after each of its departures.
 waits-singly : (n f : ℕ) (h : History) → Waiting (departures n (h .state) .state) f → WaitingAfterEvery f h (replicate n departing)

@@ -25,6 +25,7 @@ use Rattle.err.proofs.Flows.{at-others, here-now}
 use Rattle.err.proofs.Keeps.{departed-keeps}
 use Rattle.err.proofs.Parts.{flowMadeOf}
 use Rattle.err.proofs.Departing.{departures-add-none}
+use Rattle.err.proofs.Choosing.{chosen-has}
 use Rattle.account.specs.Stretch.{turnThen, turnsOf, completing}
 use Rattle.account.proofs.Circle.{circleOf, visitsInLine, flow-joins, packet-joins, flow-opens, Run, stands, moves, follows, Renewed, Waits, Backwards}
 use Rattle.account.proofs.Departure.{renewed, departure-runs}
@@ -88,8 +89,8 @@ module _ (Wanted : (ℕ → Flow) → Type 0) (s : Scheduler) (R : Rules s) wher
   unless-refused-runs : (n : ℕ) (t : Scheduler) → (n ≡ 0 → Wanted (flowAt t) → Run Wanted (circleOf s) (circleOf t) [] [])
       → Wanted (flowAt (unlessRefused n s t .state)) → Run Wanted (circleOf s) (circleOf (unlessRefused n s t .state)) [] []
   unfolding unlessRefused
-  unless-refused-runs zero t effect W = effect refl W
-  unless-refused-runs (suc n) t effect W = stands
+  unless-refused-runs n t effect =
+      chosen-has (λ k. Wanted (flowAt k) → Run Wanted (circleOf s) (circleOf k) [] []) n t s effect (λ W. stands)
 
   offered-runs : (g size : ℕ) → Wanted (flowAt (offered s g size .state)) → Run Wanted (circleOf s) (circleOf (offered s g size .state)) [] []
   unfolding offered

@@ -45,14 +45,14 @@ idle-from-then zero h e = refl
 idle-from-then (suc n) h e = ap (λ (k : History). chain k (replicate n departing)) (idle-single h e) ∙ idle-from-then n h e
 
 -- N single calls make the model's N departures, and leave their state: those after the first idle are idle too.
-pub departures-singly : (n : ℕ) (h : History)
+pub single-calls-make-departures : (n : ℕ) (h : History)
     → chain h (replicate n departing)
     ≡ record { state = departures n (h .state) .state; accepted = h .accepted; left = h .left ++ departures n (h .state) .sent }
 unfolding chain departures andThen
-departures-singly zero h = ap (λ (l : List Sent). record { state = h .state; accepted = h .accepted; left = l }) (sym (append-nil (h .left)))
-departures-singly (suc n) h =
+single-calls-make-departures zero h = ap (λ (l : List Sent). record { state = h .state; accepted = h .accepted; left = l }) (sym (append-nil (h .left)))
+single-calls-make-departures (suc n) h =
     by (departed (h .state) .reply) refl
-    (departures-singly n (record { state = t; accepted = h .accepted; left = h .left ++ sentBy (departed (h .state) .reply) }))
+    (single-calls-make-departures n (record { state = t; accepted = h .accepted; left = h .left ++ sentBy (departed (h .state) .reply) }))
   where
     t : Scheduler
     t = departed (h .state) .state

@@ -19,7 +19,7 @@ use Rattle.err.specs.declared.Reply.the-variants.{Departure, Idle}
 use Rattle.err.specs.declared.Sent.{Sent}
 use Rattle.err.proofs.Keeps.{new-closed, new-keeps, every-call-keeps}
 use Rattle.err.proofs.Departing.{departed-leaves, SendsOrStays, sends, stays, sends-or-stays, idle-stays}
-use Rattle.err.proofs.Chains.{chain-keeps, departures-singly}
+use Rattle.err.proofs.Chains.{chain-keeps, single-calls-make-departures}
 use Rattle.err.proofs.Queues.{sizes-append, departed-queue, departures-queue, opened-queue, offered-queue}
 use Rattle.err.proofs.Standing.{nobody-waits}
 
@@ -129,4 +129,4 @@ refused-burst-changes-nothing s n list k e = by (burstRefusal n list) (CountRefu
 pub burst-as-single-calls : (n : ℕ) (h : History) → Rules (h .state)
     → chain h (replicate n departing)
     ≡ record { state = departures n (h .state) .state; accepted = h .accepted; left = h .left ++ departures n (h .state) .sent }
-burst-as-single-calls n h R = departures-singly n h
+burst-as-single-calls n h R = single-calls-make-departures n h

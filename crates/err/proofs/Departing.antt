@@ -136,7 +136,7 @@ never-refused s k e = by (sends-or-stays s)
     by (stays i same t l) = let z : _≡_ {A = ℕ} 0 1 = cc in omega arith
 
 -- No departure call adds a packet to a queue.
-pub visit-adds-none : (s : Scheduler) → length (nextVisit s .flow .queue) ≤ length (flowAt s (whose (s .round)) .queue)
+visit-adds-none : (s : Scheduler) → length (nextVisit s .flow .queue) ≤ length (flowAt s (whose (s .round)) .queue)
 unfolding visit visitBy surplusCleared
 visit-adds-none s = go (s .round .turn) (s .round .line) (s .round) (flowAt s (whose (s .round)))
   where

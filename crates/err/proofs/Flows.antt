@@ -1,4 +1,4 @@
--- What putting one flow in place does to the others, and which changes of a flow keep its rules.
+-- What putting one flow in place does to the others, what a queue begins with, and which changes of a flow keep its rules.
 use Prim.Native.Nat.{ℕ, zero, suc, _+_, _%_, _≤_, _<_}
 use mathlib.Core.Path.{_≡_, refl, sym, ap, _∙_, subst}
 use mathlib.Core.List.{List, [], _∷_, _++_}
@@ -60,7 +60,7 @@ rules-put s f x r R b X T =
       all-flows = length-set (s .flows) f x ∙ R .all-flows;
       flow-rules =
           everywhere (λ g y. FlowRules y) f (flowAt s) (flowAt (put s f x r)) (at-others s f x r)
-          (subst FlowRules (sym (at-put s f x r (omega (arith, R .all-flows)))) X)
+          (subst FlowRules (sym (here-now s R b x r)) X)
           (λ g d. R .flow-rules g);
       round-rules = T;
     }

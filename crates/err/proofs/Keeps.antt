@@ -27,7 +27,7 @@ use Rattle.err.proofs.Refusals.{MayOpen, may-open, MayOffer, may-offer}
 use Rattle.err.proofs.Counts.{count-head}
 use Rattle.err.proofs.Rounding.{raised-keeps, raised-covers, raised-at-most}
 use Rattle.err.proofs.Line.{OnlyAt, everywhere, same-standing, not-standing, joins-the-line, leaves-the-line, rejoins-the-line, leaves-for-good, round-starts}
-use Rattle.err.proofs.Flows.{at-put, at-others, put-back, waiting-in-reach, rules-put, closed-flow-rules, open-flow-rules, joined-flow-rules, cleared-flow-rules, first-in-range, left-flow-rules}
+use Rattle.err.proofs.Flows.{at-others, put-back, waiting-in-reach, rules-put, closed-flow-rules, open-flow-rules, joined-flow-rules, cleared-flow-rules, first-in-range, left-flow-rules, here-now}
 
 -- An open flow with a packet waiting weighs something.
 pub weighs : (x : Flow) → FlowRules x → (x .queue ≡ [] → ⊥) → 1 ≤ x .weight
@@ -179,7 +179,7 @@ opened-keeps s f weight R =
         rules-put s f (openFlow weight) (s .round) R (may .flow-in-range) (open-flow-rules weight (may .weight-small))
         (opening-keeps (at-others s f (openFlow weight) (s .round)) (s .round) (s .round .turn)
         (ap (λ (q : List ℕ). ifEmpty q 0 1) (R .flow-rules f .open-if-waiting (may .not-open)))
-        (ap activity (at-put s f (openFlow weight) (s .round) (omega (arith, R .all-flows, may .flow-in-range))))
+        (ap activity (here-now s R (may .flow-in-range) (openFlow weight) (s .round)))
         (R .round-rules))
 
 pub offered-keeps : (s : Scheduler) (f size : ℕ) → Rules s → Rules (offered s f size .state)
@@ -199,7 +199,7 @@ offered-keeps s f size R =
         rules-put s f (packetJoined x size) r R (may .flow-in-range)
         (joined-flow-rules (x .weight) (x .surplus) (x .slot) (x .queue) size (R .flow-rules f) (may .is-open) (may .size-positive) (may .size-small) (may .has-room))
         (offering-keeps (at-others s f (packetJoined x size) r) (s .round) (s .round .turn) (x .weight) (x .surplus) (x .slot) (x .queue) size refl
-        (at-put s f (packetJoined x size) r (omega (arith, R .all-flows, may .flow-in-range)))
+        (here-now s R (may .flow-in-range) (packetJoined x size) r)
         (R .round-rules))
 
 -- A flow that stands is active: it has a packet waiting.
@@ -236,7 +236,7 @@ module _ (s : Scheduler) (R : Rules s) where
       both : FlowRules x′ × RoundRules (flowAt (put s f x′ r′)) r′ (r′ .turn)
       both =
           served-keeps r f a n w σ k (λ g d. at-others s f x′ r′ g d ∙ sym (only g d)) L q X here
-          (at-put s f x′ r′ (omega (arith, R .all-flows, inside))) T waits
+          (here-now s R inside x′ r′) T waits
 
   -- Steps 2 to 6 for the head of the line, once a visit is left.
   begun-keeps : (f : ℕ) (line : List ℕ) (visits mark running : ℕ) → LineRules (flowAt s) [] (f ∷ line) mark running (suc visits)
@@ -273,7 +273,7 @@ module _ (s : Scheduler) (R : Rules s) where
       waits = standing-waits x stands
 
       here : flowAt s′ f ≡ surplusCleared x
-      here = at-put s f (surplusCleared x) r (omega (arith, R .all-flows, waiting-in-reach s f (R .all-flows) waits))
+      here = here-now s R (waiting-in-reach s f (R .all-flows) waits) (surplusCleared x) r
 
       counted : suc visits - 1 ≡ visits
       counted = omega arith

@@ -3,7 +3,6 @@ use Prim.Native.Nat.{ℕ, zero, suc}
 use mathlib.Core.Path.{_≡_, refl, sym, ap, ap₂, _∙_}
 use mathlib.Core.List.{List, [], _∷_, _++_, append-nil, append-assoc}
 use mathlib.Core.Bool.{Bool, cond}
-use native.Mathlib.Omega.{arith}
 use lib.Dec.{eqb}
 use borrow.Author.Tests.{eq-eqb, ne-eqb}
 use Rattle.err.specs.Choose.{ifZero}
@@ -16,10 +15,11 @@ use Rattle.err.specs.Chain.{offering, accepting, Packet, sizesOf, packet
 use Rattle.err.specs.declared.Reply.{Reply}
 use Rattle.err.specs.declared.Reply.the-variants.{Departure, Idle, Refused}
 use Rattle.err.proofs.Refusals.{MayOpen, may-open, may-offer}
-use Rattle.err.proofs.Flows.{at-put, at-others}
+use Rattle.err.proofs.Flows.{at-others, here-now}
 use Rattle.err.proofs.Keeps.{departed-keeps}
 use Rattle.err.proofs.Departing.{Leaves, departed-leaves, SendsOrStays, sends, stays, sends-or-stays}
 use Rattle.err.proofs.Line.{same-or-other}
+use Rattle.err.proofs.Choosing.{chosen-has}
 
 pub sizes-append : (f : ℕ) (a b : List Packet) → sizesOf f (a ++ b) ≡ sizesOf f a ++ sizesOf f b
 unfolding sizesOf
@@ -75,16 +75,16 @@ departures-queue (suc n) s R g = by (departed s .reply) refl (departures-queue n
 -- Opening a flow leaves every queue.
 pub opened-queue : (s : Scheduler) (f weight : ℕ) → Rules s → (g : ℕ) → flowAt (opened s f weight .state) g .queue ≡ flowAt s g .queue
 unfolding opened unlessRefused
-opened-queue s f weight R g = by (openRefusal f weight (flowAt s f)) refl
+opened-queue s f weight R g =
+    chosen-has (λ t. flowAt t g .queue ≡ flowAt s g .queue) (openRefusal f weight (flowAt s f)) (put s f (openFlow weight) (s .round)) s
+    (λ e. effect (may-open f weight (flowAt s f) e)) refl
   where
-    by : (n : ℕ) → openRefusal f weight (flowAt s f) ≡ n → flowAt (ifZero n (put s f (openFlow weight) (s .round)) s) g .queue ≡ flowAt s g .queue
-    by zero e =
-        let may : MayOpen f weight (flowAt s f) = may-open f weight (flowAt s f) e in
+    effect : MayOpen f weight (flowAt s f) → flowAt (put s f (openFlow weight) (s .round)) g .queue ≡ flowAt s g .queue
+    effect may =
         same-or-other (λ h. flowAt (put s f (openFlow weight) (s .round)) h .queue ≡ flowAt s h .queue) f g
-        (ap (λ (y : Flow). y .queue) (at-put s f (openFlow weight) (s .round) (omega (arith, R .all-flows, may .flow-in-range)))
+        (ap (λ (y : Flow). y .queue) (here-now s R (may .flow-in-range) (openFlow weight) (s .round))
         ∙ sym (R .flow-rules f .open-if-waiting (may .not-open)))
         (λ d. ap (λ (y : Flow). y .queue) (at-others s f (openFlow weight) (s .round) g d))
-    by (suc n) e = refl
 
 -- An accepted packet joins the end of its flow's queue.
 pub offered-queue : (s : Scheduler) (f size : ℕ) → Rules s → (g : ℕ)
@@ -105,7 +105,7 @@ offered-queue s f size R g = by (offerRefusal f size (flowAt s f)) refl
         → flowAt (ifZero n (put s f x r) s) g .queue ≡ flowAt s g .queue ++ sizesOf g (ifZero n (record { flow = f; size = size } ∷ []) [])
     by zero e =
         same-or-other (λ h. flowAt (put s f x r) h .queue ≡ flowAt s h .queue ++ sizesOf h (record { flow = f; size = size } ∷ [])) f g
-        (ap (λ (y : Flow). y .queue) (at-put s f x r (omega (arith, R .all-flows, may-offer f size (flowAt s f) e .flow-in-range)))
+        (ap (λ (y : Flow). y .queue) (here-now s R (may-offer f size (flowAt s f) e .flow-in-range) x r)
         ∙ ap (λ (l : List ℕ). flowAt s f .queue ++ l) (sym (its-own f size)))
         (λ d.
         ap (λ (y : Flow). y .queue) (at-others s f x r g d)

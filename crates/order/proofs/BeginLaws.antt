@@ -36,7 +36,7 @@ unfolding visitBy
 visit-of-head [] r x h = absurd (omega arith)
 visit-of-head (f ∷ l) r x h = refl
 
--- Where a round may start, its numbers stay in range and a visit is left.
+-- Where a round may start, a visit is left.
 some-visit : (v n : ℕ) → 0 < n → 1 ≤ ifZero v n v
 some-visit zero n h = h
 some-visit (suc v) n h = omega arith

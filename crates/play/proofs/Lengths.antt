@@ -21,6 +21,7 @@ use Rattle.err.specs.declared.Reply.the-variants.{Departure, Idle, Refused as R
 use Rattle.err.specs.declared.Sent.{Sent}
 use Rattle.err.proofs.Keeps.{new-keeps, opened-keeps, offered-keeps, departed-keeps, departures-keep}
 use Rattle.err.proofs.Told.{ToldInRange, told-in-range}
+use Rattle.err.proofs.Departing.{idle-stays, never-refused}
 use Rattle.lines.specs.Text.{bytes}
 use Rattle.lines.specs.Line.{lineAt}
 use Rattle.lines.specs.Written.{decimal, field, eventText, written}
@@ -37,7 +38,7 @@ use Rattle.play.specs.Transcript.{inputLimit, outputLimit, replyText, li
 use Rattle.play.proofs.PlayLaws.{too-long, short-enough}
 use Rattle.play.proofs.ScriptLaws.{ends, reads, spoils}
 use Rattle.play.proofs.StoryLaws.{text-append, text-of-one}
-use Rattle.play.proofs.Waiting.{waiting, nothing-waits, opening-waits, offering-waits, departed-waiting, one-less}
+use Rattle.play.proofs.Waiting.{waiting, nothing-waits, opening-waits, offering-waits, one-less}
 
 -- ---- the lengths of printed lines
 
@@ -194,8 +195,8 @@ departs (suc count) n s R f =
               );
           counted = omega (arith, rest .counted);
         }
-    by-reply Idle e more = record { printed = omega (arith, departed-waiting s); counted = omega (arith, departed-waiting s) }
-    by-reply (ReplyRefused k) e more = record { printed = omega (arith, departed-waiting s); counted = omega (arith, departed-waiting s) }
+    by-reply Idle e more = let same = ap waiting (idle-stays s e) in record { printed = omega arith; counted = omega arith }
+    by-reply (ReplyRefused k) e more = absurd (never-refused s k e)
 
 send-pays : (r : Replay) (count : ℕ) → Rules (r .scheduler) → Few (r .departed + waiting (r .scheduler)) → Pays r (sending r count) 7
 unfolding sending departing textOf

@@ -14,7 +14,7 @@ use Rattle.err.specs.declared.Reply.the-variants.{Departure}
 use Rattle.err.specs.declared.Sent.{Sent}
 use Rattle.err.proofs.Standing.{whose-in-reach}
 use Rattle.err.proofs.Flows.{here-now}
-use Rattle.err.proofs.Departing.{Leaves, departed-leaves, visit-adds-none}
+use Rattle.err.proofs.Departing.{Leaves, departed-leaves}
 
 -- ---- the packets of a list of flows
 
@@ -66,14 +66,8 @@ pub offering-waits : (s : Scheduler) (f size : ℕ) → waiting (put s f (packet
 unfolding put waiting packetJoined queued
 offering-waits s f size = held-grows (s .flows) f (packetJoined (flowAt s f) size) 1 (omega (arith, length-append (flowAt s f .queue) (size ∷ [])))
 
--- ---- a departure
+-- ---- a departure: one packet less waits
 
--- No departure call adds a packet.
-pub departed-waiting : (s : Scheduler) → waiting (departed s .state) ≤ waiting s
-unfolding departed put waiting queued
-departed-waiting s = omega (arith, held-grows (s .flows) (whose (s .round)) (nextVisit s .flow) 0 (omega (arith, visit-adds-none s)))
-
--- Where a packet leaves, one less waits.
 pub one-less : (s : Scheduler) → Rules s → (d : Sent) → departed s .reply ≡ Departure d → waiting (departed s .state) < waiting s
 unfolding departed put waiting queued
 one-less s R d e =

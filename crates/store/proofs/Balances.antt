@@ -24,7 +24,7 @@ use Rattle.store.specs.Chain.{offering, departing, lent, back, Packet, s
 use Rattle.store.proofs.SlotLaws.{held-length, written-length}
 use Rattle.store.proofs.CallLaws.{offer-may, offer-state, offer-refused, offer-stores, departs, depart-refused, depart-made, sent-departure}
 use Rattle.err.proofs.Departing.{Leaves, departed-leaves, idle-stays, never-refused}
-use Rattle.err.proofs.Choosing.{zero-chosen}
+use Rattle.err.proofs.Choosing.{zero-chosen, chosen-has}
 use Rattle.err.proofs.Keeps.{new-closed}
 use Rattle.err.proofs.Line.{same-or-other}
 use Rattle.store.proofs.Lending.{lent-length, lent-whole, back-whole, back-untouched}
@@ -77,11 +77,10 @@ module _ (s : Scheduler) (R : Rules s) (store : List ℕ) (f weight : ℕ) where
 
   pub open-balances : Balances s store [] [] (opened s f weight .state) store
   unfolding opened unlessRefused bytesOf
-  open-balances g = append-nil (waitingBytes s store g) ∙ sym (by (openRefusal f weight (flowAt s f)) refl)
-    where
-      by : (n : ℕ) → openRefusal f weight (flowAt s f) ≡ n → waitingBytes (ifZero n (openedIn s f weight) s) store g ≡ waitingBytes s store g
-      by zero e = open-waits (may-open f weight (flowAt s f) e) g
-      by (suc n) e = refl
+  open-balances g =
+      append-nil (waitingBytes s store g)
+      ∙ sym (chosen-has (λ t. waitingBytes t store g ≡ waitingBytes s store g) (openRefusal f weight (flowAt s f)) (openedIn s f weight) s
+      (λ e. open-waits (may-open f weight (flowAt s f) e) g) refl)
 
 -- An accepted packet is written in the slot behind its flow's last, and joins its queue.
 module _ (s : Scheduler) (R : Rules s) (store : List ℕ) (whole : length store ≡ storeLength) (f : ℕ) (packet : List ℕ)

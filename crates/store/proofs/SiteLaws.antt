@@ -14,7 +14,7 @@ use Rattle.err.specs.declared.Answer.the-variants.{Done, Refused as AnswerRefus
 use Rattle.err.specs.declared.Reply.{Reply}
 use Rattle.err.specs.declared.Reply.the-variants.{Departure, Refused}
 use Rattle.err.specs.declared.Sent.{Sent}
-use Rattle.err.proofs.Flows.{at-put, first-in-range}
+use Rattle.err.proofs.Flows.{first-in-range, here-now}
 use Rattle.err.proofs.Refusals.{MayOffer, may-offer}
 use Rattle.order.specs.Encoding.{viewFlow}
 use Rattle.order.specs.Premises.{FlowReady}
@@ -80,11 +80,6 @@ module _ (site : Site) (S : SoundSite site) where
   unfolding siteOf schedulerOf
   site-form = ap (λ (o : State). record { order = o }) (S .form)
 
-  -- A flow's cell stands for the flow.
-  cell-of : (f : ℕ) → f < flowLimit → viewFlow (getD (site .order .flows) f noCell) ≡ flowAt s f
-  unfolding schedulerOf
-  cell-of f h = cell-seen (site .order) S f h
-
   pub rules-of-site : Rules s
   unfolding schedulerOf
   rules-of-site = S .rules
@@ -138,7 +133,7 @@ module _ (site : Site) (S : SoundSite site) where
           ∙ ap (λ (t : Scheduler). flowAt t f) (offer-seen S g)
           ∙ ap (λ (n : ℕ). flowAt (ifZero n (put s f (packetJoined (flowAt s f) (length packet)) (flowLined (s .round) f (flowAt s f))) s) f)
           (done-number (offerRefusal f (length packet) (flowAt s f)) (sym answer-is ∙ e))
-          ∙ at-put s f (packetJoined (flowAt s f) (length packet)) (flowLined (s .round) f (flowAt s f)) (omega (arith, S .rules .all-flows))
+          ∙ here-now s rules-of-site h (packetJoined (flowAt s f) (length packet)) (flowLined (s .round) f (flowAt s f))
 
       slot-taken : a .answer ≡ Done → slotBefore (nextSlotOf (viewFlow (getD (a .state .flows) f noCell))) ≡ nextSlotOf (flowAt s f)
       unfolding packetJoined
