@@ -56,12 +56,15 @@ module _ (r : RoundHeld) (x : FlowCell) (h : MayBegin r x) where
       (chosen-has (λ (m : ℕ). m ≤ markLimit) (r .visits) 0 (r .running) (λ z. omega arith) (h .round-ready .running-in-range))
 
   module _ (now : RoundHeld) (n : now ≡ encodeRound (roundStarted (viewRound r))) where
-    pub now-ready : RoundReady now
+    now-ready : RoundReady now
     now-ready = subst RoundReady (sym n) started-ready
 
-    pub now-some : 0 < now .length
+    now-some : 0 < now .length
     unfolding encodeRound roundStarted
     now-some = rw n some-stand
+
+    pub may-open-turn : RoundReady now × (0 < now .length)
+    may-open-turn = (now-ready, now-some)
 
     mark-is : now .mark ≡ roundStarted (viewRound r) .mark
     unfolding encodeRound

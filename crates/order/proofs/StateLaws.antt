@@ -309,10 +309,14 @@ module _ (c : State) (S : Sound c) where
             (round-form ∙ ap encodeRound (sym (chosen-has (λ (r : Round). r ≡ view c .round) (openRefusal f weight x) (view c .round) (view c .round) (λ z. refl) refl)))
             (ap (λ (k : Opened). k .answer) g)
 
-    pub room-in-line : f < flowLimit → getD (c .flows) at noCell .waiting ≡ 0 → c .round .length < flowLimit
+    room-in-line : f < flowLimit → getD (c .flows) at noCell .waiting ≡ 0 → c .round .length < flowLimit
     unfolding view
     room-in-line b z =
         omega (arith, length-is (roundOf c) round-form, room-for-another (view c) (S .rules) at place-in-reach (none-is-empty (flowAt (view c) at .queue) (sym (count-is at place-in-reach) ∙ z)))
+
+    pub may-offer-to : RoundReady (roundOf c)
+        × (FlowReady (getD (c .flows) at noCell) × (f < flowLimit → getD (c .flows) at noCell .waiting ≡ 0 → c .round .length < flowLimit))
+    may-offer-to = (round-of-sound, (cell-ready at place-in-reach, room-in-line))
 
     pub offered-gives : (size : ℕ) (o : Offered) (line : List ℕ) → heldOffer line (c .round) o ≡ offeredParts (roundOf c) (getD (c .flows) at noCell) f size
         → OfferGives c f size (record { state = record { flows = set (c .flows) at (o .flow); line = line; round = withLength (c .round) (o .length) }; answer = o .answer })

@@ -1,4 +1,4 @@
--- From what serving a flow makes of its parts to what the model's steps 2 to 6 say.
+-- From what serving a flow makes of its parts to what the model's steps 3 to 6 say.
 use Prim.Native.Nat.{ℕ, _+_, _≤_, _<_}
 use mathlib.Core.Path.{_≡_, refl, sym, ap, _∙_, subst}
 use mathlib.Core.List.{List, [], _∷_}
@@ -7,7 +7,7 @@ use native.Mathlib.Omega.{arith}
 use lib.ListN.{length, drop}
 use lib.Dec.{leb}
 use borrow.Author.Tests.{le-leb, lt-leb}
-use Rattle.err.specs.Limits.{sizeLimit, allowanceLimit}
+use Rattle.err.specs.Limits.{flowLimit, markLimit}
 use Rattle.err.specs.Model.{Flow}
 use Rattle.err.specs.Rules.{FlowRules}
 use Rattle.err.specs.Steps.{allowance, surplusCleared, firstSize, firstLeft, turnEnds, turnKept, turnClosed, excessKept, settled, served}
@@ -16,7 +16,7 @@ use Rattle.err.specs.declared.Reply.the-variants.{Departure}
 use Rattle.err.proofs.Flows.{left-flow-rules}
 use Rattle.err.proofs.Choosing.{empty-by-count, waiting-by-count}
 use Rattle.order.specs.Encoding.{RoundHeld, encodeFlow, encodeRound, viewRound, viewFlow}
-use Rattle.order.specs.Premises.{FlowReady, MayServe, VisitHeld, encodeVisit}
+use Rattle.order.specs.Premises.{FlowReady, RoundReady, MayServe, sentLimit, VisitHeld, encodeVisit}
 use Rattle.order.specs.declared.FlowCell.{FlowCell}
 use Rattle.order.proofs.Encoded.{flow-seen, flow-ready, waiting-is}
 use Rattle.order.proofs.FlowLaws.{nothing-kept, first-size-small}
@@ -49,7 +49,7 @@ module _ (r : RoundHeld) (x : FlowCell) (allowed sent : ℕ) (h : MayServe r x a
   left-rules-here =
       left-rules (viewFlow x) (h .has-first .ready .rules) (h .no-surplus) (omega (arith, waiting-is x (h .has-first .ready .form), h .has-first .waits))
 
-  pub sent-small : (size : ℕ) → size ≡ firstSize (viewFlow x) → sent + size < allowanceLimit + sizeLimit
+  pub sent-small : (size : ℕ) → size ≡ firstSize (viewFlow x) → sent + size < sentLimit
   sent-small size e = omega (arith, first-size-small x (h .has-first), h .allowed-in-range, h .more-may-be-sent)
 
   module _ (left : FlowCell) (e : left ≡ encodeFlow (firstLeft (viewFlow x))) where
@@ -60,9 +60,24 @@ module _ (r : RoundHeld) (x : FlowCell) (allowed sent : ℕ) (h : MayServe r x a
     left-seen : viewFlow left ≡ firstLeft (viewFlow x)
     left-seen = ap viewFlow e ∙ flow-seen (firstLeft (viewFlow x)) (left-rules-here .sizes-in-range)
 
-    pub left-weighs : 1 ≤ left .weight
+    left-weighs : 1 ≤ left .weight
     unfolding encodeFlow firstLeft viewFlow
     left-weighs = rw e (h .weighs)
+
+    -- What the ways on may count on: the turn ends with nothing waiting, or with packets waiting.
+    module _ (size : ℕ) (s : size ≡ firstSize (viewFlow x)) where
+      pub may-empty : left .waiting ≡ 0
+          → FlowReady left × (((1 ≤ r .visits) × (r .running ≤ markLimit) × (1 ≤ left .weight) × (sent + size < sentLimit)) × (left .waiting ≡ 0))
+      may-empty none = (left-ready, ((h .a-visit-left, h .round-ready .running-in-range, left-weighs, sent-small size s), none))
+
+      pub may-close : (left .waiting ≡ 0 → ⊥) → allowed ≤ sent + size
+          → RoundReady r × (FlowReady left
+          × (((r .length < flowLimit) × (1 ≤ r .visits) × (1 ≤ left .weight) × (allowed ≤ sent + size) × (sent + size < sentLimit)) × (0 < left .waiting)))
+      may-close some enough =
+          (h .round-ready, (left-ready, ((h .line-has-room, h .a-visit-left, left-weighs, enough, sent-small size s), omega arith)))
+
+      pub may-keep : (left .waiting ≡ 0 → ⊥) → allowed ≤ sent + size → FlowReady left × ((0 < left .waiting) × (allowed ≤ sent + size))
+      may-keep some enough = (left-ready, (omega arith, enough))
 
     -- Whether the turn ends shows in how many wait and in what is sent.
     ends-with-none : (n : ℕ) → left .waiting ≡ 0 → turnEnds allowed n (viewFlow left .queue) ≡ true

@@ -19,13 +19,18 @@ slice-relend-prefix-depart : tie.Need-slice-relend-prefix-depart
 slice-relend-prefix-depart c = within 255 300 (c .before .before .before .before .args .out .now) (lit≤ tt) (c .before .before .before .before .pre .1)
 
 slice-aggregate-depart-2 : tie.Need-slice-aggregate-depart-2
-slice-aggregate-depart-2 c = as-many 255 300 (c .before .before .before .before .before .args .out .now) (lit≤ tt) (c .before .before .before .before .before .pre .1)
+slice-aggregate-depart-2 c =
+    let start = c .before .before .before .before .before in
+    as-many 255 300 (start .args .out .now) (lit≤ tt) (start .pre .1)
 
 depart-requires : tie.Need-depart-requires
 depart-requires c κs = c .before .before .new .ensures .sound
 
 same-length : tie.Need-same-length
-same-length c = length-front (c .before .before .before .before .before .before .before .before .args .out .now) (c .before .before .depart .last .1 .1 .0) 255 (c .before .before .depart .kept .1 .1 .0)
+same-length c =
+    let start = c .before .before .before .before .before .before .before .before in
+    let depart = c .before .before .depart in
+    length-front (start .args .out .now) (depart .last .1 .1 .0) 255 (depart .kept .1 .1 .0)
 
 returns : tie.Need-returns
 returns c = tt

@@ -8,19 +8,32 @@ depart-drawn-requires : tie.Need-depart-drawn-requires
 depart-drawn-requires c κs = tt
 
 slice-aggregate-depart : tie.Need-slice-aggregate-depart
-slice-aggregate-depart c = as-many (c .before .depart-drawn .result .lent) 65536 (c .before .before .before .before .args .store .now) (c .before .depart-drawn .ensures .0) (c .before .before .before .before .pre .1 .0)
+slice-aggregate-depart c =
+    let start = c .before .before .before .before in
+    let depart-drawn = c .before .depart-drawn in
+    as-many (depart-drawn .result .lent) 65536 (start .args .store .now) (depart-drawn .ensures .0) (start .pre .1 .0)
 
 slice-relend-prefix-depart : tie.Need-slice-relend-prefix-depart
-slice-relend-prefix-depart c = within (c .before .depart-drawn .result .room) 300 (c .before .before .before .before .args .out .now) (c .before .depart-drawn .ensures .1) (c .before .before .before .before .pre .1 .1)
+slice-relend-prefix-depart c =
+    let start = c .before .before .before .before in
+    let depart-drawn = c .before .depart-drawn in
+    within (depart-drawn .result .room) 300 (start .args .out .now) (depart-drawn .ensures .1) (start .pre .1 .1)
 
 slice-aggregate-depart-2 : tie.Need-slice-aggregate-depart-2
-slice-aggregate-depart-2 c = as-many (c .before .before .depart-drawn .result .room) 300 (c .before .before .before .before .before .args .out .now) (c .before .before .depart-drawn .ensures .1) (c .before .before .before .before .before .pre .1 .1)
+slice-aggregate-depart-2 c =
+    let start = c .before .before .before .before .before in
+    let depart-drawn = c .before .before .depart-drawn in
+    as-many (depart-drawn .result .room) 300 (start .args .out .now) (depart-drawn .ensures .1) (start .pre .1 .1)
 
 depart-requires : tie.Need-depart-requires
 depart-requires c κs = c .before .before .before .before .before .pre .0
 
 same-length : tie.Need-same-length
-same-length c = length-front (c .before .before .before .before .before .before .before .before .before .args .out .now) (c .before .before .before .depart .last .1 .1 .0) (c .before .before .before .before .before .before .depart-drawn .result .room) (c .before .before .before .depart .kept .1 .1 .0)
+same-length c =
+    let start = c .before .before .before .before .before .before .before .before .before in
+    let depart-drawn = c .before .before .before .before .before .before .depart-drawn in
+    let depart = c .before .before .before .depart in
+    length-front (start .args .out .now) (depart .last .1 .1 .0) (depart-drawn .result .room) (depart .kept .1 .1 .0)
 
 returns : tie.Need-returns
 returns c = c .before .before .before .depart .ensures .sound

@@ -16,22 +16,38 @@ rising-requires : tie.Need-rising-requires
 rising-requires c κs = (c .before .offer-drawn .ensures .1, c .before .offer-drawn .ensures .2, lit< tt)
 
 array-share-prefix-packet : tie.Need-array-share-prefix-packet
-array-share-prefix-packet c = within (c .before .before .before .offer-drawn .result .size) 258 (c .before .rising .last .0) (c .before .before .before .offer-drawn .ensures .0) (c .before .rising .kept .0)
+array-share-prefix-packet c =
+    let offer-drawn = c .before .before .before .offer-drawn in
+    let rising = c .before .rising in
+    within (offer-drawn .result .size) 258 (rising .last .0) (offer-drawn .ensures .0) (rising .kept .0)
 
 slice-aggregate-offer : tie.Need-slice-aggregate-offer
-slice-aggregate-offer c = as-many (c .before .before .before .before .offer-drawn .result .size) 258 (c .before .before .rising .last .0) (c .before .before .before .before .offer-drawn .ensures .0) (c .before .before .rising .kept .0)
+slice-aggregate-offer c =
+    let offer-drawn = c .before .before .before .before .offer-drawn in
+    let rising = c .before .before .rising in
+    as-many (offer-drawn .result .size) 258 (rising .last .0) (offer-drawn .ensures .0) (rising .kept .0)
 
 slice-relend-prefix-offer : tie.Need-slice-relend-prefix-offer
-slice-relend-prefix-offer c = within (c .before .before .before .before .offer-drawn .result .lent) 65536 (c .before .before .before .before .before .before .args .store .now) (c .before .before .before .before .offer-drawn .ensures .3) (c .before .before .before .before .before .before .pre .1 .1)
+slice-relend-prefix-offer c =
+    let start = c .before .before .before .before .before .before in
+    let offer-drawn = c .before .before .before .before .offer-drawn in
+    within (offer-drawn .result .lent) 65536 (start .args .store .now) (offer-drawn .ensures .3) (start .pre .1 .1)
 
 slice-aggregate-offer-2 : tie.Need-slice-aggregate-offer-2
-slice-aggregate-offer-2 c = as-many (c .before .before .before .before .before .offer-drawn .result .lent) 65536 (c .before .before .before .before .before .before .before .args .store .now) (c .before .before .before .before .before .offer-drawn .ensures .3) (c .before .before .before .before .before .before .before .pre .1 .1)
+slice-aggregate-offer-2 c =
+    let start = c .before .before .before .before .before .before .before in
+    let offer-drawn = c .before .before .before .before .before .offer-drawn in
+    as-many (offer-drawn .result .lent) 65536 (start .args .store .now) (offer-drawn .ensures .3) (start .pre .1 .1)
 
 offer-requires : tie.Need-offer-requires
 offer-requires c κs = c .before .before .before .before .before .before .before .pre .0
 
 same-length : tie.Need-same-length
-same-length c = length-front (c .before .before .before .before .before .before .before .before .before .before .before .args .store .now) (c .before .before .before .offer .last .1 .1 .1 .0) (c .before .before .before .before .before .before .before .before .before .offer-drawn .result .lent) (c .before .before .before .offer .kept .1 .1 .1 .0)
+same-length c =
+    let start = c .before .before .before .before .before .before .before .before .before .before .before in
+    let offer-drawn = c .before .before .before .before .before .before .before .before .before .offer-drawn in
+    let offer = c .before .before .before .offer in
+    length-front (start .args .store .now) (offer .last .1 .1 .1 .0) (offer-drawn .result .lent) (offer .kept .1 .1 .1 .0)
 
 returns : tie.Need-returns
 returns c = c .before .before .before .offer .ensures .sound

@@ -26,25 +26,42 @@ enum-known-event-3 : tie.Need-enum-known-event-3
 enum-known-event-3 c = search needs
 
 send-requires : tie.Need-send-requires
-send-requires c κs = (c .before .before .before .before .before .pre .0, send-fits _ _ (c .before .before .event3 .given .1) (c .before .before .before .before .before .pre .1))
+send-requires c κs =
+    let start = c .before .before .before .before .before in
+    let event3 = c .before .before .event3 in
+    (start .pre .0, send-fits _ _ (event3 .given .1) (start .pre .1))
 
 same-length : tie.Need-same-length
 same-length c = search needs
 
 returns : tie.Need-returns
-returns c = open-goes _ (c .before .before .before .before .before .before .before .before .before .before .before .pre .0) _ _ (c .before .before .before .told .ensures) _ _ _ (c .before .before .before .before .before .before .before .before .event .given .1) (c .before .before .before .before .before .«open» .ensures)
+returns c =
+    let start = c .before .before .before .before .before .before .before .before .before .before .before in
+    let event = c .before .before .before .before .before .before .before .before .event in
+    let before = c .before .before .before .before .before in
+    let told = c .before .before .before .told in
+    open-goes _ (start .pre .0) _ _ (told .ensures) _ _ _ (event .given .1) (before .«open» .ensures)
 
 same-length-2 : tie.Need-same-length-2
 same-length-2 c = search needs
 
 returns-2 : tie.Need-returns-2
-returns-2 c = offer-goes _ (c .before .before .before .before .before .before .before .before .before .before .before .pre .0) _ _ (c .before .before .before .told2 .ensures) _ _ _ (c .before .before .before .before .before .before .before .before .event2 .given .1) (c .before .before .before .before .before .offer .ensures)
+returns-2 c =
+    let start = c .before .before .before .before .before .before .before .before .before .before .before in
+    let event2 = c .before .before .before .before .before .before .before .before .event2 in
+    let offer = c .before .before .before .before .before .offer in
+    let told2 = c .before .before .before .told2 in
+    offer-goes _ (start .pre .0) _ _ (told2 .ensures) _ _ _ (event2 .given .1) (offer .ensures)
 
 same-length-3 : tie.Need-same-length-3
 same-length-3 c = search needs
 
 returns-3 : tie.Need-returns-3
-returns-3 c = send-happens _ (c .before .before .before .before .before .before .before .before .pre .0) _ _ _ _ (c .before .before .before .before .before .event3 .given .1) (c .before .before .send .ensures)
+returns-3 c =
+    let start = c .before .before .before .before .before .before .before .before in
+    let event3 = c .before .before .before .before .before .event3 in
+    let send = c .before .before .send in
+    send-happens _ (start .pre .0) _ _ _ _ (event3 .given .1) (send .ensures)
 
 pub run-spec : {M : Type 1} → statement M
 run-spec =

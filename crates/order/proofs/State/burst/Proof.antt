@@ -7,6 +7,7 @@ use mathlib.Core.Path.{refl, sym, _∙_}
 use Prim.Native.Nat.{_-_}
 use lib.ListN.{set}
 use Rattle.order.specs.Encoding.{view}
+use Rattle.order.specs.declared.State.{State}
 use denote.Ref.{now}
 use Rattle.order.proofs.State.burst.Statement.{statement}
 use Rattle.order.proofs.State.burst.Tie as tie
@@ -18,10 +19,15 @@ abbrev μ-loop : tie.MeasureT-loop
 μ-loop n list₀ self₀ line₀ round₀ made₀ list self line round made = n - made
 
 returns : tie.Need-returns Inv-loop μ-loop
-returns c = burst-refused (c .before .before .args .t1) (c .before .before .args .n) (now (c .before .before .args .list)) (c .before .before .pre) (c .if1 .taken)
+returns c =
+    let start = c .before .before in
+    burst-refused (start .args .t1) (start .args .n) (now (start .args .list)) (start .pre) (c .if1 .taken)
 
 loop-holds : tie.Need-loop-holds Inv-loop μ-loop
-loop-holds c = underway-first (c .before .before .before .before .args .t1) (c .before .before .before .before .args .n) (now (c .before .before .before .before .args .list)) (c .before .before .before .before .pre) (c .before .before .if1 .left)
+loop-holds c =
+    let start = c .before .before .before .before in
+    let if1 = c .before .before .if1 in
+    underway-first (start .args .t1) (start .args .n) (now (start .args .list)) (start .pre) (if1 .left)
 
 array-read-whose : tie.Need-array-read-whose Inv-loop μ-loop
 array-read-whose c = search needs
@@ -30,19 +36,41 @@ whose-requires : tie.Need-whose-requires Inv-loop μ-loop
 whose-requires c κs = search needs
 
 mul-flow : tie.Need-mul-flow Inv-loop μ-loop
-mul-flow c = omega (arith, at-in-reach (record { flows = c .before .before .loop .self .flows; line = c .before .before .loop .line; round = c .before .before .loop .round }) (c .before .before .loop .inv .sound) (c .whose .result) (c .whose .ensures (c .before .before .loop .line) (round-of-sound (record { flows = c .before .before .loop .self .flows; line = c .before .before .loop .line; round = c .before .before .loop .round }) (c .before .before .loop .inv .sound)) refl))
+mul-flow c =
+    let loop = c .before .before .loop in
+    let now-state : State = record { flows = loop .self .flows; line = loop .line; round = loop .round } in
+    omega
+    (arith, at-in-reach now-state (loop .inv .sound) (c .whose .result) (c .whose .ensures (loop .line) (round-of-sound now-state (loop .inv .sound)) refl))
 
 element-copy-out-flow : tie.Need-element-copy-out-flow Inv-loop μ-loop
-element-copy-out-flow c = omega (arith, at-in-reach (record { flows = c .before .before .loop .self .flows; line = c .before .before .loop .line; round = c .before .before .loop .round }) (c .before .before .loop .inv .sound) (c .whose .result) (c .whose .ensures (c .before .before .loop .line) (round-of-sound (record { flows = c .before .before .loop .self .flows; line = c .before .before .loop .line; round = c .before .before .loop .round }) (c .before .before .loop .inv .sound)) refl))
+element-copy-out-flow c =
+    let loop = c .before .before .loop in
+    let now-state : State = record { flows = loop .self .flows; line = loop .line; round = loop .round } in
+    omega
+    (arith, at-in-reach now-state (loop .inv .sound) (c .whose .result) (c .whose .ensures (loop .line) (round-of-sound now-state (loop .inv .sound)) refl))
 
 visit-requires : tie.Need-visit-requires Inv-loop μ-loop
-visit-requires c κs = may-visit (record { flows = c .before .before .before .before .loop .self .flows; line = c .before .before .before .before .loop .line; round = c .before .before .before .before .loop .round }) (c .before .before .before .before .loop .inv .sound) (c .before .before .whose .result) (c .before .before .whose .ensures (c .before .before .before .before .loop .line) (round-of-sound (record { flows = c .before .before .before .before .loop .self .flows; line = c .before .before .before .before .loop .line; round = c .before .before .before .before .loop .round }) (c .before .before .before .before .loop .inv .sound)) refl)
+visit-requires c κs =
+    let loop = c .before .before .before .before .loop in
+    let whose = c .before .before .whose in
+    let now-state : State = record { flows = loop .self .flows; line = loop .line; round = loop .round } in
+    may-visit now-state (loop .inv .sound) (whose .result) (whose .ensures (loop .line) (round-of-sound now-state (loop .inv .sound)) refl)
 
 mul-rest : tie.Need-mul-rest Inv-loop μ-loop
-mul-rest c = omega (arith, at-in-reach (record { flows = c .before .before .before .before .before .before .loop .self .flows; line = c .before .before .before .before .before .before .loop .line; round = c .before .before .before .before .before .before .loop .round }) (c .before .before .before .before .before .before .loop .inv .sound) (c .before .before .before .before .whose .result) (c .before .before .before .before .whose .ensures (c .before .before .before .before .before .before .loop .line) (round-of-sound (record { flows = c .before .before .before .before .before .before .loop .self .flows; line = c .before .before .before .before .before .before .loop .line; round = c .before .before .before .before .before .before .loop .round }) (c .before .before .before .before .before .before .loop .inv .sound)) refl))
+mul-rest c =
+    let loop = c .before .before .before .before .before .before .loop in
+    let whose = c .before .before .before .before .whose in
+    let now-state : State = record { flows = loop .self .flows; line = loop .line; round = loop .round } in
+    omega
+    (arith, at-in-reach now-state (loop .inv .sound) (whose .result) (whose .ensures (loop .line) (round-of-sound now-state (loop .inv .sound)) refl))
 
 element-set-from-rest : tie.Need-element-set-from-rest Inv-loop μ-loop
-element-set-from-rest c = omega (arith, at-in-reach (record { flows = c .before .before .before .before .before .before .loop .self .flows; line = c .before .before .before .before .before .before .loop .line; round = c .before .before .before .before .before .before .loop .round }) (c .before .before .before .before .before .before .loop .inv .sound) (c .before .before .before .before .whose .result) (c .before .before .before .before .whose .ensures (c .before .before .before .before .before .before .loop .line) (round-of-sound (record { flows = c .before .before .before .before .before .before .loop .self .flows; line = c .before .before .before .before .before .before .loop .line; round = c .before .before .before .before .before .before .loop .round }) (c .before .before .before .before .before .before .loop .inv .sound)) refl))
+element-set-from-rest c =
+    let loop = c .before .before .before .before .before .before .loop in
+    let whose = c .before .before .before .before .whose in
+    let now-state : State = record { flows = loop .self .flows; line = loop .line; round = loop .round } in
+    omega
+    (arith, at-in-reach now-state (loop .inv .sound) (whose .result) (whose .ensures (loop .line) (round-of-sound now-state (loop .inv .sound)) refl))
 
 enum-known-reply : tie.Need-enum-known-reply Inv-loop μ-loop
 enum-known-reply c = search needs
@@ -51,25 +79,60 @@ same-length : tie.Need-same-length Inv-loop μ-loop
 same-length c = c .before .before .before .before .before .before .before .before .loop .inv .same-length
 
 returns-2 : tie.Need-returns-2 Inv-loop μ-loop
-returns-2 c = stopped (view (c .before .before .before .before .before .before .before .before .before .before .before .before .before .args .t1)) (c .before .before .before .before .before .before .before .before .before .before .before .before .before .args .n) (now (c .before .before .before .before .before .before .before .before .before .before .before .before .before .args .list)) (record { flows = c .before .before .before .before .before .before .before .before .loop .self .flows; line = c .before .before .before .before .before .before .before .before .loop .line; round = c .before .before .before .before .before .before .before .before .loop .round }) (c .before .before .before .before .before .before .before .before .loop .made) (c .before .before .before .before .before .before .before .before .loop .list) (c .before .before .before .before .before .before .before .before .loop .inv) (record { flows = set (c .before .before .before .before .before .before .before .before .loop .self .flows) (c .before .before .before .before .before .before .whose .result) (c .before .before .before .visit .result .flow); line = c .before .before .before .visit .last .0; round = c .before .before .before .visit .result .round }) (c .before .before .before .visit .result .reply) (c .before .before .before .before .before .before .before .loop-test .taken) (departed-state (record { flows = c .before .before .before .before .before .before .before .before .loop .self .flows; line = c .before .before .before .before .before .before .before .before .loop .line; round = c .before .before .before .before .before .before .before .before .loop .round }) (c .before .before .before .before .before .before .before .before .loop .inv .sound) (c .before .before .before .before .before .before .whose .result) (c .before .before .before .before .before .before .whose .ensures (c .before .before .before .before .before .before .before .before .loop .line) (round-of-sound (record { flows = c .before .before .before .before .before .before .before .before .loop .self .flows; line = c .before .before .before .before .before .before .before .before .loop .line; round = c .before .before .before .before .before .before .before .before .loop .round }) (c .before .before .before .before .before .before .before .before .loop .inv .sound)) refl) (c .before .before .before .visit .result) (c .before .before .before .visit .last .0) (c .before .before .before .visit .ensures)) (sym (departed-reply (record { flows = c .before .before .before .before .before .before .before .before .loop .self .flows; line = c .before .before .before .before .before .before .before .before .loop .line; round = c .before .before .before .before .before .before .before .before .loop .round }) (c .before .before .before .before .before .before .before .before .loop .inv .sound) (c .before .before .before .before .before .before .whose .result) (c .before .before .before .before .before .before .whose .ensures (c .before .before .before .before .before .before .before .before .loop .line) (round-of-sound (record { flows = c .before .before .before .before .before .before .before .before .loop .self .flows; line = c .before .before .before .before .before .before .before .before .loop .line; round = c .before .before .before .before .before .before .before .before .loop .round }) (c .before .before .before .before .before .before .before .before .loop .inv .sound)) refl) (c .before .before .before .visit .result) (c .before .before .before .visit .last .0) (c .before .before .before .visit .ensures))) (c .match .keys2) (c .before .before .before .before .before .before .before .before .before .before .before .before .before .args .t1) refl
+returns-2 c =
+    let start = c .before .before .before .before .before .before .before .before .before .before .before .before .before in
+    let loop = c .before .before .before .before .before .before .before .before .loop in
+    let loop-test = c .before .before .before .before .before .before .before .loop-test in
+    let whose = c .before .before .before .before .before .before .whose in
+    let visit = c .before .before .before .visit in
+    let now-state : State = record { flows = loop .self .flows; line = loop .line; round = loop .round } in
+    stopped (view (start .args .t1)) (start .args .n) (now (start .args .list)) now-state (loop .made) (loop .list) (loop .inv)
+    (record { flows = set (loop .self .flows) (whose .result) (visit .result .flow); line = visit .last .0; round = visit .result .round })
+    (visit .result .reply) (loop-test .taken)
+    (departed-state now-state (loop .inv .sound) (whose .result) (whose .ensures (loop .line) (round-of-sound now-state (loop .inv .sound)) refl) (visit .result) (visit .last .0) (visit .ensures))
+    (sym (departed-reply now-state (loop .inv .sound) (whose .result) (whose .ensures (loop .line) (round-of-sound now-state (loop .inv .sound)) refl) (visit .result) (visit .last .0) (visit .ensures)))
+    (c .match .keys2) (start .args .t1) refl
 
 slice-write-list : tie.Need-slice-write-list Inv-loop μ-loop
-slice-write-list c = omega (arith, c .before .before .before .before .before .before .before .before .before .before .loop .inv .list-fits, c .before .before .before .before .before .before .before .before .before .before .loop .inv .same-length, c .before .before .before .before .before .before .before .before .before .loop-test .taken)
+slice-write-list c =
+    let loop = c .before .before .before .before .before .before .before .before .before .before .loop in
+    let loop-test = c .before .before .before .before .before .before .before .before .before .loop-test in
+    omega (arith, loop .inv .list-fits, loop .inv .same-length, loop-test .taken)
 
 add-made : tie.Need-add-made Inv-loop μ-loop
-add-made c = omega (arith, c .before .before .before .before .before .before .before .before .before .loop-test .taken, c .before .before .before .before .before .before .before .before .before .before .before .before .before .before .before .fits)
+add-made c =
+    let start = c .before .before .before .before .before .before .before .before .before .before .before .before .before .before .before in
+    let loop-test = c .before .before .before .before .before .before .before .before .before .loop-test in
+    omega (arith, loop-test .taken, start .fits)
 
 loop-less : tie.Need-loop-less Inv-loop μ-loop
 loop-less c = omega (arith, c .before .before .before .before .before .before .before .before .before .loop-test .taken)
 
 loop-again : tie.Need-loop-again Inv-loop μ-loop
-loop-again c = one-more-made (view (c .before .before .before .before .before .before .before .before .before .before .before .before .before .before .before .args .t1)) (c .before .before .before .before .before .before .before .before .before .before .before .before .before .before .before .args .n) (now (c .before .before .before .before .before .before .before .before .before .before .before .before .before .before .before .args .list)) (record { flows = c .before .before .before .before .before .before .before .before .before .before .loop .self .flows; line = c .before .before .before .before .before .before .before .before .before .before .loop .line; round = c .before .before .before .before .before .before .before .before .before .before .loop .round }) (c .before .before .before .before .before .before .before .before .before .before .loop .made) (c .before .before .before .before .before .before .before .before .before .before .loop .list) (c .before .before .before .before .before .before .before .before .before .before .loop .inv) (record { flows = set (c .before .before .before .before .before .before .before .before .before .before .loop .self .flows) (c .before .before .before .before .before .before .before .before .whose .result) (c .before .before .before .before .before .visit .result .flow); line = c .before .before .before .before .before .visit .last .0; round = c .before .before .before .before .before .visit .result .round }) (c .before .reply .given .0 .0) (c .before .before .before .before .before .before .before .before .before .loop-test .taken) (departed-state (record { flows = c .before .before .before .before .before .before .before .before .before .before .loop .self .flows; line = c .before .before .before .before .before .before .before .before .before .before .loop .line; round = c .before .before .before .before .before .before .before .before .before .before .loop .round }) (c .before .before .before .before .before .before .before .before .before .before .loop .inv .sound) (c .before .before .before .before .before .before .before .before .whose .result) (c .before .before .before .before .before .before .before .before .whose .ensures (c .before .before .before .before .before .before .before .before .before .before .loop .line) (round-of-sound (record { flows = c .before .before .before .before .before .before .before .before .before .before .loop .self .flows; line = c .before .before .before .before .before .before .before .before .before .before .loop .line; round = c .before .before .before .before .before .before .before .before .before .before .loop .round }) (c .before .before .before .before .before .before .before .before .before .before .loop .inv .sound)) refl) (c .before .before .before .before .before .visit .result) (c .before .before .before .before .before .visit .last .0) (c .before .before .before .before .before .visit .ensures)) (sym (departed-reply (record { flows = c .before .before .before .before .before .before .before .before .before .before .loop .self .flows; line = c .before .before .before .before .before .before .before .before .before .before .loop .line; round = c .before .before .before .before .before .before .before .before .before .before .loop .round }) (c .before .before .before .before .before .before .before .before .before .before .loop .inv .sound) (c .before .before .before .before .before .before .before .before .whose .result) (c .before .before .before .before .before .before .before .before .whose .ensures (c .before .before .before .before .before .before .before .before .before .before .loop .line) (round-of-sound (record { flows = c .before .before .before .before .before .before .before .before .before .before .loop .self .flows; line = c .before .before .before .before .before .before .before .before .before .before .loop .line; round = c .before .before .before .before .before .before .before .before .before .before .loop .round }) (c .before .before .before .before .before .before .before .before .before .before .loop .inv .sound)) refl) (c .before .before .before .before .before .visit .result) (c .before .before .before .before .before .visit .last .0) (c .before .before .before .before .before .visit .ensures)) ∙ c .before .reply .given .1)
+loop-again c =
+    let start = c .before .before .before .before .before .before .before .before .before .before .before .before .before .before .before in
+    let loop = c .before .before .before .before .before .before .before .before .before .before .loop in
+    let loop-test = c .before .before .before .before .before .before .before .before .before .loop-test in
+    let whose = c .before .before .before .before .before .before .before .before .whose in
+    let visit = c .before .before .before .before .before .visit in
+    let reply = c .before .reply in
+    let now-state : State = record { flows = loop .self .flows; line = loop .line; round = loop .round } in
+    one-more-made (view (start .args .t1)) (start .args .n) (now (start .args .list)) now-state (loop .made) (loop .list) (loop .inv)
+    (record { flows = set (loop .self .flows) (whose .result) (visit .result .flow); line = visit .last .0; round = visit .result .round })
+    (reply .given .0 .0) (loop-test .taken)
+    (departed-state now-state (loop .inv .sound) (whose .result) (whose .ensures (loop .line) (round-of-sound now-state (loop .inv .sound)) refl) (visit .result) (visit .last .0) (visit .ensures))
+    (sym (departed-reply now-state (loop .inv .sound) (whose .result) (whose .ensures (loop .line) (round-of-sound now-state (loop .inv .sound)) refl) (visit .result) (visit .last .0) (visit .ensures)) ∙ reply .given .1)
 
 same-length-2 : tie.Need-same-length-2 Inv-loop μ-loop
 same-length-2 c = c .before .loop .inv .same-length
 
 returns-3 : tie.Need-returns-3 Inv-loop μ-loop
-returns-3 c = all-made (view (c .before .before .before .before .before .before .args .t1)) (c .before .before .before .before .before .before .args .n) (now (c .before .before .before .before .before .before .args .list)) (record { flows = c .before .loop .self .flows; line = c .before .loop .line; round = c .before .loop .round }) (c .before .loop .made) (c .before .loop .list) (c .before .loop .inv) (c .loop-test .left) (c .before .before .before .before .before .before .args .t1) refl
+returns-3 c =
+    let start = c .before .before .before .before .before .before in
+    let loop = c .before .loop in
+    all-made (view (start .args .t1)) (start .args .n) (now (start .args .list))
+    (record { flows = loop .self .flows; line = loop .line; round = loop .round }) (loop .made) (loop .list) (loop .inv) (c .loop-test .left)
+    (start .args .t1) refl
 
 pub burst-spec : {M : Type 1} → statement M
 burst-spec =

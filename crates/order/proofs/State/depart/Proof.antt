@@ -13,22 +13,45 @@ whose-requires : tie.Need-whose-requires
 whose-requires c κs = search needs
 
 mul-flow : tie.Need-mul-flow
-mul-flow c = omega (arith, at-in-reach (c .before .before .before .args .t1) (c .before .before .before .pre) (c .whose .result) (c .whose .ensures (c .before .before .before .args .t1 .line) (round-of-sound (c .before .before .before .args .t1) (c .before .before .before .pre)) refl))
+mul-flow c =
+    let start = c .before .before .before in
+    omega
+    (arith, at-in-reach (start .args .t1) (start .pre) (c .whose .result) (c .whose .ensures (start .args .t1 .line) (round-of-sound (start .args .t1) (start .pre)) refl))
 
 element-copy-out-flow : tie.Need-element-copy-out-flow
-element-copy-out-flow c = omega (arith, at-in-reach (c .before .before .before .args .t1) (c .before .before .before .pre) (c .whose .result) (c .whose .ensures (c .before .before .before .args .t1 .line) (round-of-sound (c .before .before .before .args .t1) (c .before .before .before .pre)) refl))
+element-copy-out-flow c =
+    let start = c .before .before .before in
+    omega
+    (arith, at-in-reach (start .args .t1) (start .pre) (c .whose .result) (c .whose .ensures (start .args .t1 .line) (round-of-sound (start .args .t1) (start .pre)) refl))
 
 visit-requires : tie.Need-visit-requires
-visit-requires c κs = may-visit (c .before .before .before .before .before .args .t1) (c .before .before .before .before .before .pre) (c .before .before .whose .result) (c .before .before .whose .ensures (c .before .before .before .before .before .args .t1 .line) (round-of-sound (c .before .before .before .before .before .args .t1) (c .before .before .before .before .before .pre)) refl)
+visit-requires c κs =
+    let start = c .before .before .before .before .before in
+    let whose = c .before .before .whose in
+    may-visit (start .args .t1) (start .pre) (whose .result)
+    (whose .ensures (start .args .t1 .line) (round-of-sound (start .args .t1) (start .pre)) refl)
 
 mul-rest : tie.Need-mul-rest
-mul-rest c = omega (arith, at-in-reach (c .before .before .before .before .before .before .before .args .t1) (c .before .before .before .before .before .before .before .pre) (c .before .before .before .before .whose .result) (c .before .before .before .before .whose .ensures (c .before .before .before .before .before .before .before .args .t1 .line) (round-of-sound (c .before .before .before .before .before .before .before .args .t1) (c .before .before .before .before .before .before .before .pre)) refl))
+mul-rest c =
+    let start = c .before .before .before .before .before .before .before in
+    let whose = c .before .before .before .before .whose in
+    omega
+    (arith, at-in-reach (start .args .t1) (start .pre) (whose .result) (whose .ensures (start .args .t1 .line) (round-of-sound (start .args .t1) (start .pre)) refl))
 
 element-set-from-rest : tie.Need-element-set-from-rest
-element-set-from-rest c = omega (arith, at-in-reach (c .before .before .before .before .before .before .before .args .t1) (c .before .before .before .before .before .before .before .pre) (c .before .before .before .before .whose .result) (c .before .before .before .before .whose .ensures (c .before .before .before .before .before .before .before .args .t1 .line) (round-of-sound (c .before .before .before .before .before .before .before .args .t1) (c .before .before .before .before .before .before .before .pre)) refl))
+element-set-from-rest c =
+    let start = c .before .before .before .before .before .before .before in
+    let whose = c .before .before .before .before .whose in
+    omega
+    (arith, at-in-reach (start .args .t1) (start .pre) (whose .result) (whose .ensures (start .args .t1 .line) (round-of-sound (start .args .t1) (start .pre)) refl))
 
 returns : tie.Need-returns
-returns c = departed-gives (c .before .before .before .before .before .before .before .before .args .t1) (c .before .before .before .before .before .before .before .before .pre) (c .before .before .before .before .before .whose .result) (c .before .before .before .before .before .whose .ensures (c .before .before .before .before .before .before .before .before .args .t1 .line) (round-of-sound (c .before .before .before .before .before .before .before .before .args .t1) (c .before .before .before .before .before .before .before .before .pre)) refl) (c .before .before .visit .result) (c .before .before .visit .last .0) (c .before .before .visit .ensures)
+returns c =
+    let start = c .before .before .before .before .before .before .before .before in
+    let whose = c .before .before .before .before .before .whose in
+    let visit = c .before .before .visit in
+    departed-gives (start .args .t1) (start .pre) (whose .result)
+    (whose .ensures (start .args .t1 .line) (round-of-sound (start .args .t1) (start .pre)) refl) (visit .result) (visit .last .0) (visit .ensures)
 
 pub depart-spec : {M : Type 1} → statement M
 depart-spec =

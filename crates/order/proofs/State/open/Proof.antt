@@ -15,16 +15,31 @@ element-copy-out-opened : tie.Need-element-copy-out-opened
 element-copy-out-opened c = omega (arith, place-in-reach (c .before .args .t1) (c .before .pre) (c .before .args .f) (c .place .result) (c .place .ensures))
 
 opened-requires : tie.Need-opened-requires
-opened-requires c κs = cell-ready (c .before .before .args .t1) (c .before .before .pre) (c .before .place .result) (place-in-reach (c .before .before .args .t1) (c .before .before .pre) (c .before .before .args .f) (c .before .place .result) (c .before .place .ensures))
+opened-requires c κs =
+    let start = c .before .before in
+    let place = c .before .place in
+    cell-ready (start .args .t1) (start .pre) (place .result)
+    (place-in-reach (start .args .t1) (start .pre) (start .args .f) (place .result) (place .ensures))
 
 mul-flow : tie.Need-mul-flow
-mul-flow c = omega (arith, place-in-reach (c .before .before .before .before .args .t1) (c .before .before .before .before .pre) (c .before .before .before .before .args .f) (c .before .before .before .place .result) (c .before .before .before .place .ensures))
+mul-flow c =
+    let start = c .before .before .before .before in
+    let place = c .before .before .before .place in
+    omega (arith, place-in-reach (start .args .t1) (start .pre) (start .args .f) (place .result) (place .ensures))
 
 element-set-from-flow : tie.Need-element-set-from-flow
-element-set-from-flow c = omega (arith, place-in-reach (c .before .before .before .before .args .t1) (c .before .before .before .before .pre) (c .before .before .before .before .args .f) (c .before .before .before .place .result) (c .before .before .before .place .ensures))
+element-set-from-flow c =
+    let start = c .before .before .before .before in
+    let place = c .before .before .before .place in
+    omega (arith, place-in-reach (start .args .t1) (start .pre) (start .args .f) (place .result) (place .ensures))
 
 returns : tie.Need-returns
-returns c = opened-gives (c .before .before .before .before .args .t1) (c .before .before .before .before .pre) (c .before .before .before .before .args .f) (c .before .before .before .place .result) (c .before .before .before .place .ensures) (c .before .before .before .before .args .weight) (c .before .opened .result) (c .before .opened .ensures)
+returns c =
+    let start = c .before .before .before .before in
+    let place = c .before .before .before .place in
+    let opened = c .before .opened in
+    opened-gives (start .args .t1) (start .pre) (start .args .f) (place .result) (place .ensures) (start .args .weight) (opened .result)
+    (opened .ensures)
 
 pub open-spec : {M : Type 1} → statement M
 open-spec =

@@ -19,15 +19,33 @@ returns-3 c = simp (lt-leb _ _ (c .before .before .before .if1 .left), ne-eqb _ 
 
 returns-4 : tie.Need-returns-4
 unfolding viewFlow
-returns-4 c = simp (lt-leb _ _ (c .before .before .before .before .if1 .left), ne-eqb _ _ (c .before .before .if2 .left), ne-eqb _ _ (c .before .if3 .left), lt-ltb _ _ (c .if4 .taken))
+returns-4 c =
+    let if1 = c .before .before .before .before .if1 in
+    let if2 = c .before .before .if2 in
+    let if3 = c .before .if3 in
+    simp (lt-leb _ _ (if1 .left), ne-eqb _ _ (if2 .left), ne-eqb _ _ (if3 .left), lt-ltb _ _ (c .if4 .taken))
 
 returns-5 : tie.Need-returns-5
 unfolding viewFlow
-returns-5 c = simp (lt-leb _ _ (c .before .before .before .before .before .before .if1 .left), ne-eqb _ _ (c .before .before .before .before .if2 .left), ne-eqb _ _ (c .before .before .before .if3 .left), le-ltb _ _ (c .before .before .if4 .left), ← waiting-is (c .before .before .before .before .before .before .before .args .x) (c .before .before .before .before .before .before .before .pre .form), le-leb _ _ (c .if5 .taken))
+returns-5 c =
+    let start = c .before .before .before .before .before .before .before in
+    let if1 = c .before .before .before .before .before .before .if1 in
+    let if2 = c .before .before .before .before .if2 in
+    let if3 = c .before .before .before .if3 in
+    let if4 = c .before .before .if4 in
+    simp
+    (lt-leb _ _ (if1 .left), ne-eqb _ _ (if2 .left), ne-eqb _ _ (if3 .left), le-ltb _ _ (if4 .left), ← waiting-is (start .args .x) (start .pre .form), le-leb _ _ (c .if5 .taken))
 
 returns-6 : tie.Need-returns-6
 unfolding viewFlow
-returns-6 c = simp (lt-leb _ _ (c .before .before .before .before .before .before .if1 .left), ne-eqb _ _ (c .before .before .before .before .if2 .left), ne-eqb _ _ (c .before .before .before .if3 .left), le-ltb _ _ (c .before .before .if4 .left), ← waiting-is (c .before .before .before .before .before .before .before .args .x) (c .before .before .before .before .before .before .before .pre .form), lt-leb _ _ (c .if5 .left))
+returns-6 c =
+    let start = c .before .before .before .before .before .before .before in
+    let if1 = c .before .before .before .before .before .before .if1 in
+    let if2 = c .before .before .before .before .if2 in
+    let if3 = c .before .before .before .if3 in
+    let if4 = c .before .before .if4 in
+    simp
+    (lt-leb _ _ (if1 .left), ne-eqb _ _ (if2 .left), ne-eqb _ _ (if3 .left), le-ltb _ _ (if4 .left), ← waiting-is (start .args .x) (start .pre .form), lt-leb _ _ (c .if5 .left))
 
 pub offer-refusal-spec : {M : Type 1} → statement M
 offer-refusal-spec = tie.close (tie.spec returns returns-2 returns-3 returns-4 returns-5 returns-6)

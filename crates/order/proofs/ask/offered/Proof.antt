@@ -11,19 +11,44 @@ offer-refusal-requires : tie.Need-offer-refusal-requires
 offer-refusal-requires c κs = c .pre .1 .0
 
 cast-lined : tie.Need-cast-lined
-cast-lined c = omega (arith, (may-offer-here (c .before .before .before .args .x) (c .before .before .before .args .f) (c .before .before .offer-refusal .result) (c .before .before .before .pre .1 .0) (c .before .before .before .args .size) (c .before .before .offer-refusal .ensures) (c .before .if1 .taken) .flow-in-range))
+cast-lined c =
+    let start = c .before .before .before in
+    let offer-refusal = c .before .before .offer-refusal in
+    let if1 = c .before .if1 in
+    omega
+    (arith, (may-offer-here (start .args .x) (start .args .f) (offer-refusal .result) (start .pre .1 .0) (start .args .size) (offer-refusal .ensures) (if1 .taken) .flow-in-range))
 
 lined-requires : tie.Need-lined-requires
-lined-requires c κs = (c .before .before .before .pre .0, (c .before .before .before .pre .1 .0, c .before .before .before .pre .1 .1 (may-offer-here (c .before .before .before .args .x) (c .before .before .before .args .f) (c .before .before .offer-refusal .result) (c .before .before .before .pre .1 .0) (c .before .before .before .args .size) (c .before .before .offer-refusal .ensures) (c .before .if1 .taken) .flow-in-range)))
+lined-requires c κs =
+    let start = c .before .before .before in
+    let offer-refusal = c .before .before .offer-refusal in
+    let if1 = c .before .if1 in
+    (start .pre .0, (start .pre .1 .0, start .pre .1 .1 (may-offer-here (start .args .x) (start .args .f) (offer-refusal .result) (start .pre .1 .0) (start .args .size) (offer-refusal .ensures) (if1 .taken) .flow-in-range)))
 
 joined-requires : tie.Need-joined-requires
-joined-requires c κs = has-room-here (c .before .before .before .before .args .x) (c .before .before .before .before .args .f) (c .before .before .before .offer-refusal .result) (c .before .before .before .before .pre .1 .0) (c .before .before .before .before .args .size) (c .before .before .before .offer-refusal .ensures) (c .before .before .if1 .taken)
+joined-requires c κs =
+    let start = c .before .before .before .before in
+    let offer-refusal = c .before .before .before .offer-refusal in
+    let if1 = c .before .before .if1 in
+    has-room-here (start .args .x) (start .args .f) (offer-refusal .result) (start .pre .1 .0) (start .args .size) (offer-refusal .ensures)
+    (if1 .taken)
 
 returns : tie.Need-returns
-returns c = offered-law (c .before .before .before .before .before .args .x) (c .before .before .before .before .before .args .f) (c .before .before .before .before .offer-refusal .result) (c .before .before .before .before .before .pre .1 .0) (c .before .before .before .before .before .args .size) (c .before .before .before .before .offer-refusal .ensures) (held (now (c .before .before .before .before .before .args .line)) (c .before .before .before .before .before .args .r)) (held (c .before .lined .last .0) (withLength (c .before .before .before .before .before .args .r) (c .before .lined .result))) (c .joined .result) (c .before .before .before .if1 .taken) (c .before .lined .ensures) (c .joined .ensures)
+returns c =
+    let start = c .before .before .before .before .before in
+    let offer-refusal = c .before .before .before .before .offer-refusal in
+    let if1 = c .before .before .before .if1 in
+    let lined = c .before .lined in
+    offered-law (start .args .x) (start .args .f) (offer-refusal .result) (start .pre .1 .0) (start .args .size) (offer-refusal .ensures)
+    (held (now (start .args .line)) (start .args .r)) (held (lined .last .0) (withLength (start .args .r) (lined .result))) (c .joined .result)
+    (if1 .taken) (lined .ensures) (c .joined .ensures)
 
 returns-2 : tie.Need-returns-2
-returns-2 c = offer-refused-law (c .before .before .args .x) (c .before .before .args .f) (c .before .offer-refusal .result) (c .before .before .pre .1 .0) (c .before .before .args .size) (c .before .offer-refusal .ensures) (held (now (c .before .before .args .line)) (c .before .before .args .r)) (c .before .before .pre .0) (c .if1 .left)
+returns-2 c =
+    let start = c .before .before in
+    let offer-refusal = c .before .offer-refusal in
+    offer-refused-law (start .args .x) (start .args .f) (offer-refusal .result) (start .pre .1 .0) (start .args .size) (offer-refusal .ensures)
+    (held (now (start .args .line)) (start .args .r)) (start .pre .0) (c .if1 .left)
 
 pub offered-spec : {M : Type 1} → statement M
 offered-spec =

@@ -18,11 +18,19 @@ returns-3 c = simp (lt-leb _ _ (c .before .before .if1 .left), ne-eqb _ _ (c .be
 
 returns-4 : tie.Need-returns-4
 unfolding viewFlow
-returns-4 c = simp (lt-leb _ _ (c .before .before .before .before .if1 .left), ne-eqb _ _ (c .before .before .before .if2 .left), le-ltb _ _ (c .before .before .if3 .left), eq-eqb _ _ (c .if4 .taken))
+returns-4 c =
+    let if1 = c .before .before .before .before .if1 in
+    let if2 = c .before .before .before .if2 in
+    let if3 = c .before .before .if3 in
+    simp (lt-leb _ _ (if1 .left), ne-eqb _ _ (if2 .left), le-ltb _ _ (if3 .left), eq-eqb _ _ (c .if4 .taken))
 
 returns-5 : tie.Need-returns-5
 unfolding viewFlow
-returns-5 c = simp (lt-leb _ _ (c .before .before .before .before .if1 .left), ne-eqb _ _ (c .before .before .before .if2 .left), le-ltb _ _ (c .before .before .if3 .left), ne-eqb _ _ (c .if4 .left))
+returns-5 c =
+    let if1 = c .before .before .before .before .if1 in
+    let if2 = c .before .before .before .if2 in
+    let if3 = c .before .before .if3 in
+    simp (lt-leb _ _ (if1 .left), ne-eqb _ _ (if2 .left), le-ltb _ _ (if3 .left), ne-eqb _ _ (c .if4 .left))
 
 pub open-refusal-spec : {M : Type 1} → statement M
 open-refusal-spec = tie.close (tie.spec returns returns-2 returns-3 returns-4 returns-5)

@@ -9,13 +9,24 @@ open-refusal-requires : tie.Need-open-refusal-requires
 open-refusal-requires c κs = search needs
 
 cast-t8 : tie.Need-cast-t8
-cast-t8 c = omega (arith, may-open-here (c .before .before .args .x) (c .before .before .args .f) (c .before .open-refusal .result) (c .before .before .pre) (c .before .before .args .weight) (c .before .open-refusal .ensures) (c .if1 .taken) .weight-small)
+cast-t8 c =
+    let start = c .before .before in
+    let open-refusal = c .before .open-refusal in
+    omega
+    (arith, may-open-here (start .args .x) (start .args .f) (open-refusal .result) (start .pre) (start .args .weight) (open-refusal .ensures) (c .if1 .taken) .weight-small)
 
 returns : tie.Need-returns
-returns c = opened-law (c .before .before .args .x) (c .before .before .args .f) (c .before .open-refusal .result) (c .before .before .pre) (c .before .before .args .weight) (c .before .open-refusal .ensures) (c .if1 .taken)
+returns c =
+    let start = c .before .before in
+    let open-refusal = c .before .open-refusal in
+    opened-law (start .args .x) (start .args .f) (open-refusal .result) (start .pre) (start .args .weight) (open-refusal .ensures) (c .if1 .taken)
 
 returns-2 : tie.Need-returns-2
-returns-2 c = open-refused-law (c .before .before .args .x) (c .before .before .args .f) (c .before .open-refusal .result) (c .before .before .pre) (c .before .before .args .weight) (c .before .open-refusal .ensures) (c .if1 .left)
+returns-2 c =
+    let start = c .before .before in
+    let open-refusal = c .before .open-refusal in
+    open-refused-law (start .args .x) (start .args .f) (open-refusal .result) (start .pre) (start .args .weight) (open-refusal .ensures)
+    (c .if1 .left)
 
 pub opened-spec : {M : Type 1} → statement M
 opened-spec = tie.close (tie.spec open-refusal-requires cast-t8 returns returns-2)

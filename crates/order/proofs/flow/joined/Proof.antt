@@ -15,19 +15,31 @@ sub-sizes : tie.Need-sub-sizes
 sub-sizes c = search needs
 
 mul-sizes : tie.Need-mul-sizes
-mul-sizes c = omega (arith, joined-fits (c .before .before .args .x) (c .before .before .args .size) (c .before .before .pre) (c .worth .result) (c .worth .ensures))
+mul-sizes c =
+    let start = c .before .before in
+    omega (arith, joined-fits (start .args .x) (start .args .size) (start .pre) (c .worth .result) (c .worth .ensures))
 
 add-sizes : tie.Need-add-sizes
-add-sizes c = omega (arith, joined-fits (c .before .before .before .args .x) (c .before .before .before .args .size) (c .before .before .before .pre) (c .before .worth .result) (c .before .worth .ensures))
+add-sizes c =
+    let start = c .before .before .before in
+    let worth = c .before .worth in
+    omega (arith, joined-fits (start .args .x) (start .args .size) (start .pre) (worth .result) (worth .ensures))
 
 add-t11 : tie.Need-add-t11
 add-t11 c = search needs
 
 returns : tie.Need-returns
-returns c = joined-first (c .before .before .before .before .args .x) (c .before .before .before .before .args .size) (c .before .before .before .before .pre) (c .before .before .worth .result) (c .before .before .worth .ensures) (c .if1 .taken)
+returns c =
+    let start = c .before .before .before .before in
+    let worth = c .before .before .worth in
+    joined-first (start .args .x) (start .args .size) (start .pre) (worth .result) (worth .ensures) (c .if1 .taken)
 
 returns-2 : tie.Need-returns-2
-returns-2 c = joined-behind (c .before .before .before .before .before .args .x) (c .before .before .before .before .before .args .size) (c .before .before .before .before .before .pre) (c .before .before .before .worth .result) (c .before .before .before .worth .ensures) (c .before .if1 .left)
+returns-2 c =
+    let start = c .before .before .before .before .before in
+    let worth = c .before .before .before .worth in
+    let if1 = c .before .if1 in
+    joined-behind (start .args .x) (start .args .size) (start .pre) (worth .result) (worth .ensures) (if1 .left)
 
 pub joined-spec : {M : Type 1} → statement M
 joined-spec =

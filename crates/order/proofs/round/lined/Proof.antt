@@ -17,10 +17,17 @@ add-result : tie.Need-add-result
 add-result c = search needs
 
 returns : tie.Need-returns
-returns c = lined-law (held (now (c .before .before .before .before .args .line)) (c .before .before .before .before .args .r)) (c .before .before .before .before .pre .0) (c .before .before .before .before .args .was) (c .before .before .before .before .pre .1 .0) (c .before .before .before .before .args .f) (c .before .before .if1 .taken) (c .before .before .before .before .pre .1 .1 (c .before .before .if1 .taken))
+returns c =
+    let start = c .before .before .before .before in
+    let if1 = c .before .before .if1 in
+    lined-law (held (now (start .args .line)) (start .args .r)) (start .pre .0) (start .args .was) (start .pre .1 .0) (start .args .f) (if1 .taken)
+    (start .pre .1 .1 (if1 .taken))
 
 returns-2 : tie.Need-returns-2
-returns-2 c = in-place-law (held (now (c .before .before .args .line)) (c .before .before .args .r)) (c .before .before .pre .0) (c .before .before .args .was) (c .before .before .pre .1 .0) (c .before .before .args .f) (c .if1 .left)
+returns-2 c =
+    let start = c .before .before in
+    in-place-law (held (now (start .args .line)) (start .args .r)) (start .pre .0) (start .args .was) (start .pre .1 .0) (start .args .f)
+    (c .if1 .left)
 
 pub lined-spec : {M : Type 1} → statement M
 lined-spec = tie.close (tie.spec cast-at element-write-line add-result returns returns-2)

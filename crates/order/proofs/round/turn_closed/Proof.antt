@@ -18,7 +18,9 @@ sub-raised-to : tie.Need-sub-raised-to
 sub-raised-to c = c .before .pre .1 .1 .0 .3
 
 raised-to-requires : tie.Need-raised-to-requires
-raised-to-requires c κs = (c .before .pre .1 .1 .0 .2, weight-small (c .before .args .left) (c .before .pre .1 .0), c .before .pre .0 .running-in-range, omega (arith, c .before .pre .1 .1 .0 .4))
+raised-to-requires c κs =
+    let start = c .before in
+    (start .pre .1 .1 .0 .2, weight-small (start .args .left) (start .pre .1 .0), start .pre .0 .running-in-range, omega (arith, start .pre .1 .1 .0 .4))
 
 add-t12 : tie.Need-add-t12
 add-t12 c = omega (arith, c .before .before .before .pre .1 .1 .0 .0)
@@ -27,7 +29,13 @@ sub-t13 : tie.Need-sub-t13
 sub-t13 c = c .before .before .before .before .pre .1 .1 .0 .1
 
 returns : tie.Need-returns
-returns c = rejoined-law (held (now (c .before .before .before .before .args .line)) (c .before .before .before .before .args .r)) (c .before .before .before .before .pre .0) (c .before .before .before .before .args .left) (c .before .before .before .before .pre .1 .0) (c .before .before .before .before .args .f) (c .before .before .before .before .args .allowed) (c .before .before .before .before .args .sent) (c .before .before .raised-to .result) (raised-by (c .before .before .before .before .args .r .running) (c .before .before .before .before .args .left .weight) (c .before .before .before .before .args .allowed) (c .before .before .before .before .args .sent) (c .before .before .raised-to .result) (c .before .before .before .before .pre .1 .1 .0 .3) (c .before .before .raised-to .ensures)) (λ e. omega (arith, c .before .before .before .before .pre .1 .1 .1)) (c .before .before .before .before .pre .1 .1 .0 .0)
+returns c =
+    let start = c .before .before .before .before in
+    let raised-to = c .before .before .raised-to in
+    rejoined-law (held (now (start .args .line)) (start .args .r)) (start .pre .0) (start .args .left) (start .pre .1 .0) (start .args .f)
+    (start .args .allowed) (start .args .sent) (raised-to .result)
+    (raised-by (start .args .r .running) (start .args .left .weight) (start .args .allowed) (start .args .sent) (raised-to .result) (start .pre .1 .1 .0 .3) (raised-to .ensures))
+    (λ e. omega (arith, start .pre .1 .1 .1)) (start .pre .1 .1 .0 .0)
 
 pub turn-closed-spec : {M : Type 1} → statement M
 turn-closed-spec =

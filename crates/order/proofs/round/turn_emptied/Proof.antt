@@ -12,7 +12,11 @@ sub-visits : tie.Need-sub-visits
 sub-visits c = c .before .before .pre .1 .0 .0
 
 returns : tie.Need-returns
-returns c = λ f line ready. emptied-law (held line (c .before .before .args .r)) ready (c .before .before .args .left) (c .before .before .pre .0) f (c .before .before .args .allowed) (c .before .before .args .sent) (c .before .raised .result) (c .before .raised .ensures) (c .before .before .pre .1 .1)
+returns c =
+    let start = c .before .before in
+    let raised = c .before .raised in
+    λ f line ready. emptied-law (held line (start .args .r)) ready (start .args .left) (start .pre .0) f (start .args .allowed) (start .args .sent)
+    (raised .result) (raised .ensures) (start .pre .1 .1)
 
 pub turn-emptied-spec : {M : Type 1} → statement M
 turn-emptied-spec = tie.close (tie.spec raised-requires sub-visits returns)

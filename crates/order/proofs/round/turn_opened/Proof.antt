@@ -13,7 +13,11 @@ sub-t8 : tie.Need-sub-t8
 sub-t8 c = search needs
 
 returns : tie.Need-returns
-returns c = turn-opened-law (held (now (c .before .before .before .args .line)) (c .before .before .before .args .r)) (c .before .before .before .pre .0) (c .before .before .before .args .f) (c .before .before .before .args .allowed) (c .before .shift .last .0) (c .before .before .before .pre .1) (c .before .shift .ensures)
+returns c =
+    let start = c .before .before .before in
+    let shift = c .before .shift in
+    turn-opened-law (held (now (start .args .line)) (start .args .r)) (start .pre .0) (start .args .f) (start .args .allowed) (shift .last .0)
+    (start .pre .1) (shift .ensures)
 
 pub turn-opened-spec : {M : Type 1} → statement M
 turn-opened-spec = tie.close (tie.spec shift-requires sub-t8 returns)

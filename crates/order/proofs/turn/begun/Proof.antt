@@ -1,7 +1,7 @@
 -- The round is started where due, the head leaves the line, and its turn is served.
 use mathlib.Core.Path.{refl}
 use lib.ListN.{getD}
-use Rattle.order.proofs.BeginLaws.{now-ready, now-some, may-allow, may-serve, begun-law}
+use Rattle.order.proofs.BeginLaws.{may-open-turn, may-allow, may-serve, begun-law}
 use Rattle.order.specs.Encoding.{held}
 use denote.Ref.{now}
 use borrow.Author.Needs.{needs}
@@ -16,19 +16,43 @@ started-requires : tie.Need-started-requires
 started-requires c κs = search needs
 
 allowance-requires : tie.Need-allowance-requires
-allowance-requires c κs = may-allow (held (now (c .before .before .args .line)) (c .before .before .args .r)) (c .before .before .args .x) (c .before .before .pre) (held (now (c .before .before .args .line)) (c .started .result)) (c .started .ensures (now (c .before .before .args .line)) (c .before .before .pre .round-ready))
+allowance-requires c κs =
+    let start = c .before .before in
+    may-allow (held (now (start .args .line)) (start .args .r)) (start .args .x) (start .pre) (held (now (start .args .line)) (c .started .result))
+    (c .started .ensures (now (start .args .line)) (start .pre .round-ready))
 
 turn-opened-requires : tie.Need-turn-opened-requires
-turn-opened-requires c κs = (now-ready (held (now (c .before .before .before .before .args .line)) (c .before .before .before .before .args .r)) (c .before .before .before .before .args .x) (c .before .before .before .before .pre) (held (now (c .before .before .before .before .args .line)) (c .before .before .started .result)) (c .before .before .started .ensures (now (c .before .before .before .before .args .line)) (c .before .before .before .before .pre .round-ready)), now-some (held (now (c .before .before .before .before .args .line)) (c .before .before .before .before .args .r)) (c .before .before .before .before .args .x) (c .before .before .before .before .pre) (held (now (c .before .before .before .before .args .line)) (c .before .before .started .result)) (c .before .before .started .ensures (now (c .before .before .before .before .args .line)) (c .before .before .before .before .pre .round-ready)))
+turn-opened-requires c κs =
+    let start = c .before .before .before .before in
+    let started = c .before .before .started in
+    may-open-turn (held (now (start .args .line)) (start .args .r)) (start .args .x) (start .pre) (held (now (start .args .line)) (started .result))
+    (started .ensures (now (start .args .line)) (start .pre .round-ready))
 
 cleared-requires : tie.Need-cleared-requires
 cleared-requires c κs = c .before .before .before .before .before .before .pre .has-first .ready
 
 served-requires : tie.Need-served-requires
-served-requires c κs = may-serve (held (now (c .before .before .before .before .before .before .before .args .line)) (c .before .before .before .before .before .before .before .args .r)) (c .before .before .before .before .before .before .before .args .x) (c .before .before .before .before .before .before .before .pre) (held (now (c .before .before .before .before .before .before .before .args .line)) (c .before .before .before .before .before .started .result)) (c .before .before .before .before .before .started .ensures (now (c .before .before .before .before .before .before .before .args .line)) (c .before .before .before .before .before .before .before .pre .round-ready)) (c .before .before .before .before .allowance .result) (c .before .before .before .before .allowance .ensures) (held (c .before .before .turn-opened .last .0) (c .before .before .turn-opened .result)) (getD (now (c .before .before .before .before .before .before .before .args .line)) 0 0) (c .before .before .turn-opened .ensures) (c .cleared .result) (c .cleared .ensures)
+served-requires c κs =
+    let start = c .before .before .before .before .before .before .before in
+    let started = c .before .before .before .before .before .started in
+    let allowance = c .before .before .before .before .allowance in
+    let turn-opened = c .before .before .turn-opened in
+    may-serve (held (now (start .args .line)) (start .args .r)) (start .args .x) (start .pre) (held (now (start .args .line)) (started .result))
+    (started .ensures (now (start .args .line)) (start .pre .round-ready)) (allowance .result) (allowance .ensures)
+    (held (turn-opened .last .0) (turn-opened .result)) (getD (now (start .args .line)) 0 0) (turn-opened .ensures) (c .cleared .result)
+    (c .cleared .ensures)
 
 returns : tie.Need-returns
-returns c = begun-law (held (now (c .before .before .before .before .before .before .before .before .args .line)) (c .before .before .before .before .before .before .before .before .args .r)) (c .before .before .before .before .before .before .before .before .args .x) (c .before .before .before .before .before .before .before .before .pre) (held (now (c .before .before .before .before .before .before .before .before .args .line)) (c .before .before .before .before .before .before .started .result)) (c .before .before .before .before .before .before .started .ensures (now (c .before .before .before .before .before .before .before .before .args .line)) (c .before .before .before .before .before .before .before .before .pre .round-ready)) (c .before .before .before .before .before .allowance .result) (c .before .before .before .before .before .allowance .ensures) (held (c .before .before .before .turn-opened .last .0) (c .before .before .before .turn-opened .result)) (getD (now (c .before .before .before .before .before .before .before .before .args .line)) 0 0) (c .before .before .before .turn-opened .ensures) (c .before .cleared .result) (c .before .cleared .ensures) (heldVisit (c .served .last .0) (c .served .result)) refl (c .served .ensures)
+returns c =
+    let start = c .before .before .before .before .before .before .before .before in
+    let started = c .before .before .before .before .before .before .started in
+    let allowance = c .before .before .before .before .before .allowance in
+    let turn-opened = c .before .before .before .turn-opened in
+    let cleared = c .before .cleared in
+    begun-law (held (now (start .args .line)) (start .args .r)) (start .args .x) (start .pre) (held (now (start .args .line)) (started .result))
+    (started .ensures (now (start .args .line)) (start .pre .round-ready)) (allowance .result) (allowance .ensures)
+    (held (turn-opened .last .0) (turn-opened .result)) (getD (now (start .args .line)) 0 0) (turn-opened .ensures) (cleared .result)
+    (cleared .ensures) (heldVisit (c .served .last .0) (c .served .result)) refl (c .served .ensures)
 
 pub begun-spec : {M : Type 1} → statement M
 begun-spec =

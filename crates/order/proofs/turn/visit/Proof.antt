@@ -12,7 +12,10 @@ enum-known-turn : tie.Need-enum-known-turn
 enum-known-turn c = search needs
 
 served-requires : tie.Need-served-requires
-served-requires c κs = c .before .before .before .before .pre .in-turn (c .before .before .turn .given .0 .0) (c .before .before .turn .given .0 .1 .0) (c .before .before .turn .given .0 .1 .1 .0) (c .before .before .turn .given .1)
+served-requires c κs =
+    let start = c .before .before .before .before in
+    let turn = c .before .before .turn in
+    start .pre .in-turn (turn .given .0 .0) (turn .given .0 .1 .0) (turn .given .0 .1 .1 .0) (turn .given .1)
 
 enum-told : tie.Need-enum-told
 enum-told c = search needs
@@ -21,13 +24,23 @@ begun-requires : tie.Need-begun-requires
 begun-requires c κs = c .before .before .before .before .before .pre .at-head (c .before .before .before .enum-told .given .1) (c .before .if1 .left)
 
 returns : tie.Need-returns
-returns c = c .served .ensures ∙ ap encodeVisit (sym (turn-law (held (now (c .before .before .before .before .before .args .line)) (c .before .before .before .before .before .args .r)) (c .before .before .before .before .before .args .x) (c .before .before .before .turn .given .0 .0) (c .before .before .before .turn .given .0 .1 .0) (c .before .before .before .turn .given .0 .1 .1 .0) (c .before .before .before .turn .given .1)))
+returns c =
+    let start = c .before .before .before .before .before in
+    let turn = c .before .before .before .turn in
+    c .served .ensures ∙ ap encodeVisit
+    (sym (turn-law (held (now (start .args .line)) (start .args .r)) (start .args .x) (turn .given .0 .0) (turn .given .0 .1 .0) (turn .given .0 .1 .1 .0) (turn .given .1)))
 
 returns-2 : tie.Need-returns-2
-returns-2 c = idle-law (held (now (c .before .before .before .before .args .line)) (c .before .before .before .before .args .r)) (c .before .before .before .before .args .x) (c .before .before .before .before .pre) (c .before .before .enum-told .given .1) (c .if1 .taken)
+returns-2 c =
+    let start = c .before .before .before .before in
+    let enum-told = c .before .before .enum-told in
+    idle-law (held (now (start .args .line)) (start .args .r)) (start .args .x) (start .pre) (enum-told .given .1) (c .if1 .taken)
 
 returns-3 : tie.Need-returns-3
-returns-3 c = c .begun .ensures ∙ ap encodeVisit (sym (head-law (held (now (c .before .before .before .before .before .before .args .line)) (c .before .before .before .before .before .before .args .r)) (c .before .before .before .before .before .before .args .x) (c .before .before .before .before .enum-told .given .1)))
+returns-3 c =
+    let start = c .before .before .before .before .before .before in
+    let enum-told = c .before .before .before .before .enum-told in
+    c .begun .ensures ∙ ap encodeVisit (sym (head-law (held (now (start .args .line)) (start .args .r)) (start .args .x) (enum-told .given .1)))
 
 pub visit-spec : {M : Type 1} → statement M
 visit-spec =

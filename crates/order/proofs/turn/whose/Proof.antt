@@ -16,7 +16,10 @@ enum-told : tie.Need-enum-told
 enum-told c = search needs
 
 returns : tie.Need-returns
-returns c = λ line ready head. whose-turn (held line (c .before .before .before .args .r)) (c .before .turn .given .0 .0) (c .before .turn .given .0 .1 .0) (c .before .turn .given .0 .1 .1 .0) (c .before .turn .given .1)
+returns c =
+    let start = c .before .before .before in
+    let turn = c .before .turn in
+    λ line ready head. whose-turn (held line (start .args .r)) (turn .given .0 .0) (turn .given .0 .1 .0) (turn .given .0 .1 .1 .0) (turn .given .1)
 
 returns-2 : tie.Need-returns-2
 returns-2 c = λ line ready head. head ∙ whose-head (held line (c .before .before .args .r)) (ready .form) (c .enum-told .given .1)

@@ -23,7 +23,11 @@ same-length : tie.Need-same-length
 same-length c = search needs
 
 returns : tie.Need-returns
-returns c = refused-told _ _ _ (c .before .before .before .before .before .before .before .before .before .before .before .field .ensures) (c .before .before .before .before .before .before .field2 .ensures) (c .before .before .byte .ensures)
+returns c =
+    let field = c .before .before .before .before .before .before .before .before .before .before .before .field in
+    let field2 = c .before .before .before .before .before .before .field2 in
+    let byte = c .before .before .byte in
+    refused-told _ _ _ (field .ensures) (field2 .ensures) (byte .ensures)
 
 pub refused-line-spec : {M : Type 1} → statement M
 refused-line-spec =

@@ -20,7 +20,11 @@ same-length : tie.Need-same-length
 same-length c = search needs
 
 returns : tie.Need-returns
-returns c = sent-told _ _ _ (c .before .before .before .before .before .before .before .before .before .before .field .ensures) (c .before .before .before .before .before .before .reply .ensures) (c .before .before .byte .ensures)
+returns c =
+    let field = c .before .before .before .before .before .before .before .before .before .before .field in
+    let reply = c .before .before .before .before .before .before .reply in
+    let byte = c .before .before .byte in
+    sent-told _ _ _ (field .ensures) (reply .ensures) (byte .ensures)
 
 pub sent-line-spec : {M : Type 1} → statement M
 sent-line-spec =
