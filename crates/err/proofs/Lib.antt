@@ -1,3 +1,8 @@
+-- What is proved of the model. A reader of promises looks at Demand2 (departures, refusals, nothing lost, bursts as single calls), Standing (nobody
+-- stands twice), Told (what replies tell is in range) and Bench (the bench sheet's rows).
+--
+-- They rest on Keeps (every call keeps the rules, by Counts, Line and Flows), Departing (what a departure does to its flow and to the others), Queues
+-- (what waits, call by call) and Chains (lists of calls). Choosing, Parts, Rounding and Refusals are small laws of the definitions.
 pub mod Bench
 pub mod Choosing
 pub mod Parts

@@ -1,1 +1,2 @@
+-- Intake: what was read lies within the buffer.
 pub mod Intake

@@ -1,4 +1,4 @@
--- Bytes that lie in an array from its start, with zeros behind: one more, one less, and taking the first out step by step.
+-- Taking the first byte out of an array, step by step.
 use Prim.Native.Nat.{ℕ, suc, _+_, _-_, _<_}
 use mathlib.Core.Path.{_≡_, sym, ap, _∙_}
 use mathlib.Core.List.{List, _∷_, _++_}

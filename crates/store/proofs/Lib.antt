@@ -8,9 +8,9 @@ pub mod Run
 -- OnSizes: a chain of store calls is a chain of the order layer's on the scheduler, so what is proved of those holds of it.
 pub mod OnSizes
 pub mod Blind
--- What these and the function files rest on: Copying (the loop that copies), SlotLaws (where bytes lie), CallLaws (the
--- store calls case by case), SiteLaws (from the order layer's calls to a site's), Followed (what the site given back stands for), Lending (how much of
--- the store is lent), WaitingLaws and Balances (the bytes that wait, call by call).
+-- What these and the function files rest on: Copying (the loop that copies), SlotLaws (where bytes lie), CallLaws (the store calls case by case),
+-- SiteLaws (from the order layer's calls to a site's), Followed (what the site given back stands for), Lending (how much of the store is lent),
+-- WaitingLaws and Balances (the bytes that wait, call by call).
 pub mod Copying
 pub mod SlotLaws
 pub mod CallLaws
