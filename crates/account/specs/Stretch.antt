@@ -107,14 +107,14 @@ abbrev pub onePlusMarks : Stretch → ℕ → ℕ
 onePlusMarks x f = sumOf f onePlusMark (turnsIn (begun x) (x .calls))
 
 -- No turn of flow f is open.
-abbrev pub BetweenTurns : History → ℕ → Type 0
-BetweenTurns h f = (allowed sent : ℕ) → h .state .round .turn ≡ Turn f allowed sent → ⊥
+abbrev pub BetweenTurns : Scheduler → ℕ → Type 0
+BetweenTurns s f = (allowed sent : ℕ) → s .round .turn ≡ Turn f allowed sent → ⊥
 
 -- Consecutive completed turns of flow f: the stretch begins before the first and ends after the last of them, and f has a packet waiting after every
 -- call of it.
 pub record ConsecutiveTurns (x : Stretch) (f : ℕ) : Type 0 where
-  pub before-the-first : BetweenTurns (begun x) f
-  pub after-the-last : BetweenTurns (ended x) f
+  pub before-the-first : BetweenTurns (begun x .state) f
+  pub after-the-last : BetweenTurns (ended x .state) f
   pub waiting-after-every : WaitingAfterEvery f (begun x) (x .calls)
 
 -- ---- the numbers compared

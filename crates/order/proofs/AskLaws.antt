@@ -8,8 +8,8 @@ use Rattle.err.specs.declared.Answer.{Answer}
 use Rattle.err.specs.declared.Answer.the-variants.{Done, Refused}
 use Rattle.err.proofs.Refusals.{MayOpen, may-open, MayOffer, may-offer}
 use Rattle.err.proofs.Choosing.{zero-chosen, positive-chosen}
-use Rattle.order.specs.Encoding.{RoundHeld, packed, encodeFlow, encodeRound, viewRound, viewFlow}
-use Rattle.order.specs.Premises.{FlowReady, RoundReady, HasRoom, OfferHeld, openedParts, offeredParts}
+use Rattle.order.specs.Encoding.{packed, encodeFlow, viewFlow}
+use Rattle.order.specs.Premises.{RoundHeld, encodeRound, viewRound, FlowReady, RoundReady, HasRoom, OfferHeld, openedParts, offeredParts}
 use Rattle.order.specs.declared.FlowCell.{FlowCell}
 use Rattle.order.specs.declared.Opened.{Opened}
 use Rattle.order.proofs.Encoded.{waiting-is}

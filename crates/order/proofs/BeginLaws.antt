@@ -15,8 +15,8 @@ use Rattle.err.specs.declared.Serving.{Serving}
 use Rattle.err.specs.declared.Serving.the-variants.{NoTurn, Turn}
 use Rattle.err.proofs.Flows.{cleared-flow-rules, none-is-empty}
 use Rattle.err.proofs.Choosing.{chosen-has}
-use Rattle.order.specs.Encoding.{RoundHeld, lineRoom, cells, encodeFlow, encodeRound, viewRound, viewFlow}
-use Rattle.order.specs.Premises.{FlowReady, RoundReady, MayServe, MayBegin, MayVisit, VisitHeld, encodeVisit}
+use Rattle.order.specs.Encoding.{lineRoom, cells, encodeFlow, viewFlow}
+use Rattle.order.specs.Premises.{RoundHeld, encodeRound, viewRound, FlowReady, RoundReady, MayServe, MayBegin, MayVisit, VisitHeld, encodeVisit}
 use Rattle.order.specs.declared.FlowCell.{FlowCell}
 use Rattle.order.proofs.TurnLaws.{same-visit}
 use Rattle.order.proofs.Encoded.{flow-seen, flow-ready, round-seen, round-ready, waiting-is, line-is, length-is}

@@ -8,8 +8,8 @@ use lib.Seq.{take-append-seam, set-append-seam, drop-append-add}
 use Rattle.err.specs.Limits.{flowLimit, markLimit}
 use Rattle.err.specs.Model.{Flow, Round}
 use Rattle.err.specs.Rules.{Sizes, FlowRules}
-use Rattle.order.specs.Encoding.{RoundHeld, lineRoom, cells, packed, encodeFlow, viewFlow, encodeRound, viewRound}
-use Rattle.order.specs.Premises.{FlowReady, RoundReady}
+use Rattle.order.specs.Encoding.{lineRoom, cells, packed, encodeFlow, viewFlow}
+use Rattle.order.specs.Premises.{RoundHeld, encodeRound, viewRound, FlowReady, RoundReady}
 use Rattle.order.specs.declared.FlowCell.{FlowCell}
 use Rattle.order.proofs.Packed.{packed-seen}
 

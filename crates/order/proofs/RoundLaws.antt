@@ -12,8 +12,8 @@ use Rattle.err.proofs.Rounding.{rounded-up-within, rounded-up-beyond}
 use Rattle.err.specs.declared.Serving.{Serving}
 use Rattle.err.specs.declared.Serving.the-variants.{NoTurn, Turn}
 use Rattle.err.proofs.Choosing.{zero-chosen, positive-chosen, empty-by-count, waiting-by-count}
-use Rattle.order.specs.Encoding.{RoundHeld, lineRoom, cells, encodeRound, viewRound, viewFlow}
-use Rattle.order.specs.Premises.{FlowReady, RoundReady}
+use Rattle.order.specs.Encoding.{lineRoom, cells, viewFlow}
+use Rattle.order.specs.Premises.{RoundHeld, encodeRound, viewRound, FlowReady, RoundReady}
 use Rattle.order.specs.declared.FlowCell.{FlowCell}
 use Rattle.order.proofs.Encoded.{cells-length, cells-joined, cells-left, waiting-is, line-is, length-is}
 

@@ -23,8 +23,8 @@ use Rattle.err.proofs.Flows.{put-back, none-is-empty}
 use Rattle.err.proofs.Keeps.{new-keeps, opened-keeps, offered-keeps, departed-keeps}
 use Rattle.err.proofs.Standing.{InRange, TurnFacts, HeadFacts, in-range, room-for-another, turn-facts, head-facts, whose-in-reach}
 use Rattle.err.proofs.Choosing.{positive-chosen, chosen-has}
-use Rattle.order.specs.Encoding.{RoundHeld, held, numbersOf, roundOf, encodeFlow, viewFlow, encodeRound, viewRound, encode, view, Sound}
-use Rattle.order.specs.Premises.{FlowReady, RoundReady, HasFirst, MayServe, MayBegin, MayVisit, VisitHeld, encodeVisit, heldVisit, OfferHeld, withLength, heldOffer, openedParts, offeredParts}
+use Rattle.order.specs.Encoding.{encodeFlow, viewFlow, encode, view, Sound}
+use Rattle.order.specs.Premises.{RoundHeld, held, numbersOf, roundOf, encodeRound, viewRound, FlowReady, RoundReady, HasFirst, MayServe, MayBegin, MayVisit, VisitHeld, encodeVisit, heldVisit, OfferHeld, withLength, heldOffer, openedParts, offeredParts}
 use Rattle.order.specs.Promised.{answeredAs, departedAs, NewGives, OpenGives, OfferGives, DepartGives}
 use Rattle.order.specs.declared.Answered.{Answered}
 use Rattle.order.specs.declared.Offered.{Offered}
@@ -45,7 +45,7 @@ flows-seen [] h = refl
 flows-seen (x ∷ l) h = ap₂ (λ (y : Flow) (k : List Flow). y ∷ k) (flow-seen x (h 0)) (flows-seen l (λ f. h (suc f)))
 
 pub seen : (s : Scheduler) → Rules s → view (encode s) ≡ s
-unfolding view encode
+unfolding view viewRound encode encodeRound
 seen s R =
     ap₂ (λ (l : List Flow) (r : Round). record { flows = l; round = r })
     (flows-seen (s .flows) (λ f. R .flow-rules f .sizes-in-range))
@@ -83,11 +83,11 @@ map-set (y ∷ l) (suc n) x = ap (λ (k : List FlowCell). encodeFlow y ∷ k) (m
 
 module _ (c : State) (S : Sound c) where
   flows-are : c .flows ≡ map encodeFlow (view c .flows)
-  unfolding encode
+  unfolding encode encodeRound
   flows-are = ap (λ (k : State). k .flows) (S .form)
 
   round-form : roundOf c ≡ encodeRound (viewRound (roundOf c))
-  unfolding encode view
+  unfolding encode encodeRound view viewRound
   round-form = ap roundOf (S .form)
 
   cell-at : (f : ℕ) → f < flowLimit → getD (c .flows) f noCell ≡ encodeFlow (flowAt (view c) f)
@@ -116,7 +116,7 @@ module _ (c : State) (S : Sound c) where
   -- One flow put back, with a round.
   put-law : (f : ℕ) (x : FlowCell) (line : List ℕ) (r : RoundCell) (y : Flow) (q : Round) → x ≡ encodeFlow y → held line r ≡ encodeRound q
       → record { flows = set (c .flows) f x; line = line; round = r } ≡ encode (put (view c) f y q)
-  unfolding encode put
+  unfolding encode encodeRound put
   put-law f x line r y q a b =
       ap₂ (λ (l : List FlowCell) (k : RoundHeld). record { flows = l; line = k .line; round = numbersOf k })
       (ap₂ (λ (l : List FlowCell) (k : FlowCell). set l f k) flows-are a ∙ map-set (view c .flows) f y)
@@ -149,7 +149,7 @@ module _ (c : State) (S : Sound c) where
   -- The round and the flow whose turn it is are as a visit wants them.
   module _ (at : ℕ) (e : at ≡ whose (viewRound (roundOf c))) where
     pub at-in-reach : at < flowLimit
-    unfolding view
+    unfolding view viewRound
     at-in-reach = rw e (whose-in-reach (view c) (S .rules))
 
     turn-ready : (f allowed sent : ℕ) → c .round .turn ≡ Turn f allowed sent → TurnFacts (view c) f allowed sent → at ≡ f
@@ -168,7 +168,7 @@ module _ (c : State) (S : Sound c) where
         }
 
     head-ready : HeadFacts (view c) at → (c .round .length ≡ 0 → ⊥) → MayBegin (roundOf c) (getD (c .flows) at noCell)
-    unfolding view
+    unfolding view viewRound
     head-ready H d =
         record {
           round-ready = round-of-sound;
@@ -190,14 +190,14 @@ module _ (c : State) (S : Sound c) where
 
     module _ (v : Visited) (line : List ℕ) (g : heldVisit line v ≡ encodeVisit (visit (viewRound (roundOf c)) (viewFlow (getD (c .flows) at noCell)))) where
       visit-seen : heldVisit line v ≡ encodeVisit (nextVisit (view c))
-      unfolding view
+      unfolding view viewRound
       visit-seen =
           g
           ∙ ap (λ (y : Flow). encodeVisit (visit (view c .round) y)) (cell-seen at at-in-reach)
           ∙ ap (λ (k : ℕ). encodeVisit (visit (view c .round) (flowAt (view c) k))) e
 
       pub departed-state : record { flows = set (c .flows) at (v .flow); line = line; round = v .round } ≡ encode (departed (view c) .state)
-      unfolding departed encodeVisit view
+      unfolding departed encodeVisit view viewRound
       departed-state =
           put-law at (v .flow) line (v .round) (nextVisit (view c) .flow) (nextVisit (view c) .round)
           (ap (λ (k : VisitHeld). k .flow) visit-seen)
@@ -290,7 +290,7 @@ module _ (c : State) (S : Sound c) where
 
     pub opened-gives : (weight : ℕ) (a : Opened) → a ≡ openedParts (getD (c .flows) at noCell) f weight
         → OpenGives c f weight (record { state = record { flows = set (c .flows) at (a .flow); line = c .line; round = c .round }; answer = a .answer })
-    unfolding openedParts view opened answeredAs
+    unfolding openedParts view viewRound opened answeredAs
     opened-gives weight a g =
         record {
           outcome = outcome-here;
@@ -310,7 +310,7 @@ module _ (c : State) (S : Sound c) where
             (ap (λ (k : Opened). k .answer) g)
 
     room-in-line : f < flowLimit → getD (c .flows) at noCell .waiting ≡ 0 → c .round .length < flowLimit
-    unfolding view
+    unfolding view viewRound
     room-in-line b z =
         omega (arith, length-is (roundOf c) round-form, room-for-another (view c) (S .rules) at place-in-reach (none-is-empty (flowAt (view c) at .queue) (sym (count-is at place-in-reach) ∙ z)))
 
@@ -320,7 +320,7 @@ module _ (c : State) (S : Sound c) where
 
     pub offered-gives : (size : ℕ) (o : Offered) (line : List ℕ) → heldOffer line (c .round) o ≡ offeredParts (roundOf c) (getD (c .flows) at noCell) f size
         → OfferGives c f size (record { state = record { flows = set (c .flows) at (o .flow); line = line; round = withLength (c .round) (o .length) }; answer = o .answer })
-    unfolding offeredParts view offered answeredAs
+    unfolding offeredParts view viewRound offered answeredAs
     offered-gives size o line g =
         record {
           outcome = outcome-here;

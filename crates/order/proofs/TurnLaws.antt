@@ -15,8 +15,8 @@ use Rattle.err.specs.declared.Reply.{Reply}
 use Rattle.err.specs.declared.Reply.the-variants.{Departure}
 use Rattle.err.proofs.Flows.{left-flow-rules}
 use Rattle.err.proofs.Choosing.{empty-by-count, waiting-by-count}
-use Rattle.order.specs.Encoding.{RoundHeld, encodeFlow, encodeRound, viewRound, viewFlow}
-use Rattle.order.specs.Premises.{FlowReady, RoundReady, MayServe, sentLimit, VisitHeld, encodeVisit}
+use Rattle.order.specs.Encoding.{encodeFlow, viewFlow}
+use Rattle.order.specs.Premises.{RoundHeld, encodeRound, viewRound, FlowReady, RoundReady, MayServe, sentLimit, VisitHeld, encodeVisit}
 use Rattle.order.specs.declared.FlowCell.{FlowCell}
 use Rattle.order.proofs.Encoded.{flow-seen, flow-ready, waiting-is}
 use Rattle.order.proofs.FlowLaws.{nothing-kept, first-size-small}

@@ -2,6 +2,7 @@
 use Prim.Native.Nat.{ℕ, _+_, _*_, _≤_, _<_}
 use mathlib.Core.Path.{_≡_}
 use mathlib.Core.List.{List}
+use lib.ListN.{length, take}
 use Rattle.err.specs.Limits.{sizeLimit, queueLimit, flowLimit, markLimit, allowanceLimit}
 use Rattle.err.specs.Model.{Round}
 use Rattle.err.specs.Rules.{FlowRules}
@@ -10,12 +11,14 @@ use Rattle.err.specs.Calls.{openRefusal, offerRefusal, openFlow, answerOf}
 use Rattle.err.specs.Steps.{Visit, roundStarted, packetJoined, flowLined}
 use Rattle.err.specs.declared.Answer.{Answer}
 use Rattle.err.specs.declared.Reply.{Reply}
+use Rattle.err.specs.declared.Serving.{Serving}
 use Rattle.err.specs.declared.Serving.the-variants.{NoTurn, Turn}
-use Rattle.order.specs.Encoding.{RoundHeld, held, encodeFlow, viewFlow, encodeRound, viewRound}
+use Rattle.order.specs.Encoding.{cells, lineRoom, encodeFlow, viewFlow}
 use Rattle.order.specs.declared.FlowCell.{FlowCell}
 use Rattle.order.specs.declared.Offered.{Offered}
 use Rattle.order.specs.declared.Opened.{Opened}
 use Rattle.order.specs.declared.RoundCell.{RoundCell}
+use Rattle.order.specs.declared.State.{State}
 use Rattle.order.specs.declared.Visited.{Visited}
 
 -- The flow is one of a sound state.
@@ -34,6 +37,39 @@ pub record HasRoom (x : FlowCell) (size : ℕ) : Type 0 where
   pub room : x .waiting < queueLimit
   pub size-positive : 1 ≤ size
   pub size-small : size ≤ sizeLimit
+
+-- A round as the steps have it: the cells of the line, which are lent, and the numbers beside them.
+pub record RoundHeld : Type 0 where
+  pub line : List ℕ
+  pub length : ℕ
+  pub visits : ℕ
+  pub mark : ℕ
+  pub running : ℕ
+  pub turn : Serving
+
+abbrev pub held : List ℕ → RoundCell → RoundHeld
+held line c = record { line = line; length = c .length; visits = c .visits; mark = c .mark; running = c .running; turn = c .turn }
+
+abbrev pub numbersOf : RoundHeld → RoundCell
+numbersOf r = record { length = r .length; visits = r .visits; mark = r .mark; running = r .running; turn = r .turn }
+
+abbrev pub roundOf : State → RoundHeld
+roundOf c = held (c .line) (c .round)
+
+unfoldable pub encodeRound : Round → RoundHeld
+encodeRound r =
+    record {
+      line = cells lineRoom (r .line);
+      length = length (r .line);
+      visits = r .visits;
+      mark = r .mark;
+      running = r .running;
+      turn = r .turn;
+    }
+
+unfoldable pub viewRound : RoundHeld → Round
+viewRound c =
+    record { line = take (c .length) (c .line); visits = c .visits; mark = c .mark; running = c .running; turn = c .turn }
 
 -- In a turn fewer bytes are sent than this.
 abbrev pub sentLimit : ℕ

@@ -5,8 +5,7 @@ use mathlib.Core.List.{List, [], _∷_, _++_}
 use lib.ListN.{length}
 use Rattle.err.specs.Model.{Scheduler, flowAt}
 use Rattle.err.specs.declared.Sent.{Sent}
-use Rattle.err.specs.declared.Serving.the-variants.{Turn}
-use Rattle.account.specs.Stretch.{Waiting, turnThen, sumOf, onePlusMark}
+use Rattle.account.specs.Stretch.{Waiting, BetweenTurns, turnThen, sumOf, onePlusMark}
 use Rattle.store.specs.Slots.{storeLength}
 use Rattle.store.specs.Calls.{storeDepart}
 use Rattle.store.specs.Chain.{StoreCall, resetting, opening, offering, departing, lent, Packet, leaving, bytesOf, History, start, next, chain}
@@ -84,15 +83,11 @@ turnsIn h (c ∷ calls) = completing (h .state) (h .store) c ++ turnsIn (next h 
 abbrev pub onePlusMarks : SiteStretch → ℕ → ℕ
 onePlusMarks x f = sumOf f onePlusMark (turnsIn (begun x) (x .calls))
 
--- No turn of flow f is open.
-abbrev pub BetweenTurns : History → ℕ → Type 0
-BetweenTurns h f = (allowed sent : ℕ) → h .state .round .turn ≡ Turn f allowed sent → ⊥
-
 -- Consecutive completed turns of flow f: the stretch begins before the first and ends after the last of them, and f has a packet waiting after every
 -- call of it.
 pub record ConsecutiveTurns (x : SiteStretch) (f : ℕ) : Type 0 where
-  pub before-the-first : BetweenTurns (begun x) f
-  pub after-the-last : BetweenTurns (ended x) f
+  pub before-the-first : BetweenTurns (begun x .state) f
+  pub after-the-last : BetweenTurns (ended x .state) f
   pub waiting-after-every : WaitingAfterEvery f (begun x) (x .calls)
 
 -- ---- the numbers compared

@@ -1,9 +1,8 @@
 -- Not refused, the flow has room for the packet, and the line for the flow.
 use native.Mathlib.Omega.{arith}
 use Rattle.order.proofs.AskLaws.{may-offer-here, has-room-here, offered-law, offer-refused-law}
-use Rattle.order.specs.Encoding.{held}
 use denote.Ref.{now}
-use Rattle.order.specs.Premises.{withLength}
+use Rattle.order.specs.Premises.{held, withLength}
 use Rattle.order.proofs.ask.offered.Statement.{statement}
 use Rattle.order.proofs.ask.offered.Tie as tie
 

@@ -1,7 +1,7 @@
 -- A flow with no packet waiting goes behind the last of the line.
 use borrow.Author.Needs.{needs}
 use Rattle.order.proofs.RoundLaws.{lined-law, in-place-law}
-use Rattle.order.specs.Encoding.{held}
+use Rattle.order.specs.Premises.{held}
 use denote.Ref.{now}
 use native.Mathlib.Omega.{arith}
 use Rattle.order.proofs.round.lined.Statement.{statement}

@@ -1,6 +1,6 @@
 -- With no visit left the marks move and every flow in line is to be visited.
 use Rattle.order.proofs.RoundLaws.{started-law, going-on-law}
-use Rattle.order.specs.Encoding.{held}
+use Rattle.order.specs.Premises.{held}
 use Rattle.order.proofs.round.started.Statement.{statement}
 use Rattle.order.proofs.round.started.Tie as tie
 

@@ -3,7 +3,7 @@ use native.Mathlib.Omega.{arith}
 use borrow.Author.Needs.{needs}
 use Rattle.order.proofs.FlowLaws.{weight-small}
 use Rattle.order.proofs.RoundLaws.{raised-by, rejoined-law}
-use Rattle.order.specs.Encoding.{held}
+use Rattle.order.specs.Premises.{held}
 use denote.Ref.{now}
 use Rattle.order.proofs.round.turn_closed.Statement.{statement}
 use Rattle.order.proofs.round.turn_closed.Tie as tie

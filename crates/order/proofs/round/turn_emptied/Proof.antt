@@ -1,7 +1,7 @@
 -- The line stays as it is.
 use Rattle.order.proofs.FlowLaws.{weight-small}
 use Rattle.order.proofs.RoundLaws.{emptied-law}
-use Rattle.order.specs.Encoding.{held}
+use Rattle.order.specs.Premises.{held}
 use Rattle.order.proofs.round.turn_emptied.Statement.{statement}
 use Rattle.order.proofs.round.turn_emptied.Tie as tie
 

@@ -1,6 +1,6 @@
 -- Only the turn is new.
 use Rattle.order.proofs.RoundLaws.{kept-law}
-use Rattle.order.specs.Encoding.{held}
+use Rattle.order.specs.Premises.{held}
 use Rattle.order.proofs.round.turn_kept.Statement.{statement}
 use Rattle.order.proofs.round.turn_kept.Tie as tie
 

@@ -1,7 +1,7 @@
 -- The flows behind the head move down.
 use borrow.Author.Needs.{needs}
 use Rattle.order.proofs.RoundLaws.{turn-opened-law}
-use Rattle.order.specs.Encoding.{held}
+use Rattle.order.specs.Premises.{held}
 use denote.Ref.{now}
 use Rattle.order.proofs.round.turn_opened.Statement.{statement}
 use Rattle.order.proofs.round.turn_opened.Tie as tie

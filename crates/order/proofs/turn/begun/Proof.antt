@@ -2,10 +2,9 @@
 use mathlib.Core.Path.{refl}
 use lib.ListN.{getD}
 use Rattle.order.proofs.BeginLaws.{may-open-turn, may-allow, may-serve, begun-law}
-use Rattle.order.specs.Encoding.{held}
 use denote.Ref.{now}
 use borrow.Author.Needs.{needs}
-use Rattle.order.specs.Premises.{heldVisit}
+use Rattle.order.specs.Premises.{held, heldVisit}
 use Rattle.order.proofs.turn.begun.Statement.{statement}
 use Rattle.order.proofs.turn.begun.Tie as tie
 

@@ -2,7 +2,7 @@
 use borrow.Author.Needs.{needs}
 use native.Mathlib.Omega.{arith}
 use Rattle.order.proofs.TurnLaws.{sent-small, left-ready, may-empty, may-close, may-keep, emptied-visit, closed-visit, open-visit}
-use Rattle.order.specs.Encoding.{held}
+use Rattle.order.specs.Premises.{held}
 use denote.Ref.{now}
 use Rattle.order.proofs.turn.served.Statement.{statement}
 use Rattle.order.proofs.turn.served.Tie as tie
@@ -54,7 +54,7 @@ turn-closed-requires c κs =
     let if1 = c .before .before .if1 in
     let if2 = c .before .if2 in
     may-close (held (now (start .args .line)) (start .args .r)) (start .args .x) (start .args .allowed) (start .args .sent) (start .pre)
-    (first-left .result) (first-left .ensures) (first-size .result) (first-size .ensures) (if1 .left) (if2 .taken)
+    (first-left .result) (first-left .ensures) (first-size .result) (first-size .ensures) (if1 .left) (omega (arith, if2 .taken))
 
 excess-kept-requires : tie.Need-excess-kept-requires
 excess-kept-requires c κs =
@@ -64,7 +64,7 @@ excess-kept-requires c κs =
     let if1 = c .before .before .before .if1 in
     let if2 = c .before .before .if2 in
     may-keep (held (now (start .args .line)) (start .args .r)) (start .args .x) (start .args .allowed) (start .args .sent) (start .pre)
-    (first-left .result) (first-left .ensures) (first-size .result) (first-size .ensures) (if1 .left) (if2 .taken)
+    (first-left .result) (first-left .ensures) (first-size .result) (first-size .ensures) (if1 .left) (omega (arith, if2 .taken))
 
 returns-2 : tie.Need-returns-2
 returns-2 c =
@@ -76,7 +76,7 @@ returns-2 c =
     let turn-closed = c .before .turn-closed in
     closed-visit (held (now (start .args .line)) (start .args .r)) (start .args .x) (start .args .allowed) (start .args .sent) (start .pre)
     (first-left .result) (first-left .ensures) (start .args .f) (first-size .result) (first-size .ensures)
-    (held (turn-closed .last .0) (turn-closed .result)) (c .excess-kept .result) (if1 .left) (if2 .taken) (turn-closed .ensures)
+    (held (turn-closed .last .0) (turn-closed .result)) (c .excess-kept .result) (if1 .left) (omega (arith, if2 .taken)) (turn-closed .ensures)
     (c .excess-kept .ensures)
 
 turn-kept-requires : tie.Need-turn-kept-requires

@@ -1,10 +1,10 @@
 -- One law for each case of the turn.
+use native.Mathlib.Omega.{arith}
 use borrow.Author.Needs.{needs}
 use mathlib.Core.Path.{sym, ap, _∙_}
 use Rattle.order.proofs.BeginLaws.{turn-law, head-law, idle-law}
-use Rattle.order.specs.Encoding.{held}
 use denote.Ref.{now}
-use Rattle.order.specs.Premises.{encodeVisit}
+use Rattle.order.specs.Premises.{held, encodeVisit}
 use Rattle.order.proofs.turn.visit.Statement.{statement}
 use Rattle.order.proofs.turn.visit.Tie as tie
 
@@ -21,7 +21,7 @@ enum-told : tie.Need-enum-told
 enum-told c = search needs
 
 begun-requires : tie.Need-begun-requires
-begun-requires c κs = c .before .before .before .before .before .pre .at-head (c .before .before .before .enum-told .given .1) (c .before .if1 .left)
+begun-requires c κs = c .before .before .before .before .before .pre .at-head (c .before .before .before .enum-told .given .1) (λ e. omega (arith, c .before .if1 .left))
 
 returns : tie.Need-returns
 returns c =

@@ -2,7 +2,7 @@
 use borrow.Author.Needs.{needs}
 use mathlib.Core.Path.{_∙_}
 use Rattle.order.proofs.BeginLaws.{whose-turn, whose-head}
-use Rattle.order.specs.Encoding.{held}
+use Rattle.order.specs.Premises.{held}
 use Rattle.order.proofs.turn.whose.Statement.{statement}
 use Rattle.order.proofs.turn.whose.Tie as tie
 

@@ -47,7 +47,7 @@ last-requires c κs =
 write-requires : tie.Need-write-requires
 write-requires c κs = (
   c .before .before .before .before .before .before .before .before .if1 .left,
-  (in-range (c .before .before .before) .0, before-in-reach (c .last .result) _ (c .last .ensures), in-range (c .before .before .before) .1),
+  (omega (arith, in-range (c .before .before .before) .0), before-in-reach (c .last .result) _ (c .last .ensures), in-range (c .before .before .before) .1),
 )
 
 enum-told-2 : tie.Need-enum-told-2

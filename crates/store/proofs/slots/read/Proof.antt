@@ -1,6 +1,7 @@
 -- The part of the store from the slot's start to the packet's end is copied to the start of the outgoing buffer.
 use native.Mathlib.Omega.{arith}
 use borrow.Author.Needs.{needs}
+use Rattle.err.specs.Limits.{sizeLimit}
 use Rattle.store.proofs.SlotLaws.{slot-in-store, read-law}
 use Rattle.store.proofs.slots.read.Statement.{statement}
 use Rattle.store.proofs.slots.read.Tie as tie
@@ -11,7 +12,7 @@ start-requires c κs = search needs
 add-end : tie.Need-add-end
 add-end c =
     let at = c .before .before .before in
-    omega (arith, slot-in-store (at .args .f) (at .args .k) (at .args .n) (at .pre .1 .0 .0) (at .pre .1 .0 .1) (at .pre .1 .0 .2))
+    omega (arith, slot-in-store (at .args .f) (at .args .k) sizeLimit (at .pre .1 .0 .0) (at .pre .1 .0 .1) (omega arith), at .pre .1 .0 .2)
 
 sub-copy-in : tie.Need-sub-copy-in
 sub-copy-in c = search needs
@@ -22,7 +23,7 @@ part-copy-in-start c = search needs
 part-copy-in-end : tie.Need-part-copy-in-end
 part-copy-in-end c =
     let at = c .before .before .before .before in
-    omega (arith, slot-in-store (at .args .f) (at .args .k) (at .args .n) (at .pre .1 .0 .0) (at .pre .1 .0 .1) (at .pre .1 .0 .2))
+    omega (arith, slot-in-store (at .args .f) (at .args .k) sizeLimit (at .pre .1 .0 .0) (at .pre .1 .0 .1) (omega arith), at .pre .1 .0 .2)
 
 copy-in-requires : tie.Need-copy-in-requires
 copy-in-requires c κs = search needs
