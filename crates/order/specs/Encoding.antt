@@ -71,8 +71,8 @@ view c =
           };
     }
 
--- The premise of every call, of which every call gives back a state: it has its one form, and document 01's rules hold of what it stands for. So do all
--- states that came from a new scheduler, a reset or an earlier reply.
+-- The premise of every call: the state has its one form, and document 01's rules hold of the scheduler it stands for. Every state that came from a new
+-- scheduler, a reset or an earlier reply meets it.
 pub record Sound (c : State) : Type 0 where
   pub form : c ≡ encode (view c)
   pub rules : Rules (view c)

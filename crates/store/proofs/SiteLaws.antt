@@ -25,7 +25,8 @@ use Rattle.order.specs.declared.FlowCell.{FlowCell}
 use Rattle.order.specs.declared.State.{State}
 use Rattle.order.proofs.Encoded.{waiting-is}
 use Rattle.order.proofs.StateLaws.{noCell, cell-seen, offer-seen, depart-seen}
-use Rattle.store.specs.Slots.{storeLength, outLimit, nextSlotOf, slotBefore, written, held}
+use Rattle.store.specs.Slots.{storeLength, outLimit, nextSlotOf, written, held}
+use Rattle.store.specs.AfterCall.{slotBefore}
 use Rattle.store.specs.Calls.{storeOffer, storeOfferRefusal, storeDepart, storeDepartRefusal}
 use Rattle.store.specs.Promised.{schedulerOf, SoundSite, siteOf, answeredAs, departedAs, NewGives, OpenGives, OfferGives, DepartGives}
 use Rattle.store.specs.declared.Site.{Site}

@@ -17,7 +17,7 @@ use Rattle.store.specs.declared.SiteDeparted.{SiteDeparted}
 unfoldable pub schedulerOf : Site → Scheduler
 schedulerOf site = view (site .order)
 
--- The premise of every call: the site came from a new one, a reset or an earlier reply.
+-- The premise of every call, which every site that came from a new one, a reset or an earlier reply meets.
 abbrev pub SoundSite : Site → Type 0
 SoundSite site = Sound (site .order)
 

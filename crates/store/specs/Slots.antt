@@ -1,6 +1,6 @@
 -- Where bytes lie: every packet that waits has a slot of its flow, and the bytes of the packet lie in the store from the slot's start.
 -- Only `slotStart` says where that is.
-use Prim.Native.Nat.{ℕ, _+_, _*_, _-_, _%_}
+use Prim.Native.Nat.{ℕ, _+_, _*_, _%_}
 use mathlib.Core.List.{List, _++_}
 use lib.ListN.{length, take, drop}
 use Rattle.err.specs.Limits.{sizeLimit, queueLimit}
@@ -21,10 +21,6 @@ slotStart f k = 2048 * f + 256 * k
 -- A flow's first packet since reset takes slot 0; each later one takes the next slot, the last being followed by slot 0.
 abbrev pub nextSlotOf : Flow → ℕ
 nextSlotOf x = (x .slot + length (x .queue)) % queueLimit
-
--- The slot before slot k, the first being preceded by the last.
-abbrev pub slotBefore : ℕ → ℕ
-slotBefore k = (k + (queueLimit - 1)) % queueLimit
 
 -- The store with a packet in slot k of flow f. Only the packet's own bytes are written.
 unfoldable pub written : List ℕ → ℕ → ℕ → List ℕ → List ℕ
