@@ -458,6 +458,53 @@ static void store_pairs(size_t length, uint64_t n)
     }
 }
 
+/* A hundred departures from one full state, one call each, over and over: works on a copy, so that the state is kept. */
+static void departs(uint64_t n)
+{
+    struct scheduler full;
+    struct departure d;
+    open_flows(&full, FLOWS);
+    for (unsigned k = 0; k < FLOWS * QUEUE; k++)
+        offer(&full, k / QUEUE, MAX_SIZE);
+    for (uint64_t i = 0; i < n; i++) {
+        struct scheduler s = full;
+        for (unsigned made = 0; made < 100; made++) {
+            if (depart(&s, &d))
+                fold_departure(&d);
+            else
+                fold(IDLE);
+        }
+    }
+}
+
+/* The same with the packets' bytes. */
+static void store_departs(uint64_t n)
+{
+    static uint8_t store[STORE];
+    struct scheduler full;
+    struct departure d;
+    bool departed;
+    uint8_t outgoing[OUTGOING] = {0};
+    uint8_t packet[MAX_SIZE];
+    open_flows(&full, FLOWS);
+    for (unsigned k = 0; k < FLOWS * QUEUE; k++) {
+        memset(packet, (int)k, sizeof packet);
+        store_offer(&full, store, sizeof store, k / QUEUE, packet, sizeof packet);
+    }
+    for (uint64_t i = 0; i < n; i++) {
+        struct scheduler s = full;
+        for (unsigned made = 0; made < 100; made++) {
+            store_depart(&s, store, sizeof store, outgoing, sizeof outgoing, &d, &departed);
+            if (departed)
+                fold_departure(&d);
+            else
+                fold(IDLE);
+        }
+        fold(outgoing[0]);
+        fold(outgoing[OUTGOING - 1]);
+    }
+}
+
 /* ---- Command line ---- */
 
 static int usage(void)
@@ -466,6 +513,8 @@ static int usage(void)
           "       plain burst N\n"
           "       plain again N\n"
           "       plain store LEN N     LEN from 1 to 256\n"
+          "       plain departs N\n"
+          "       plain store_departs N\n"
           "       plain replay\n",
           stderr);
     return 2;
@@ -485,10 +534,12 @@ enum {
     MODE_AGAIN = 4,
     MODE_STORE = 8,
     MODE_REPLAY = 16,
+    MODE_DEPARTS = 32,
+    MODE_STORE_DEPARTS = 64,
 };
 
 #ifndef MODES
-#define MODES (MODE_PAIRS | MODE_BURST | MODE_AGAIN | MODE_STORE | MODE_REPLAY)
+#define MODES (MODE_PAIRS | MODE_BURST | MODE_AGAIN | MODE_STORE | MODE_REPLAY | MODE_DEPARTS | MODE_STORE_DEPARTS)
 #endif
 
 int main(int argc, char **argv)
@@ -511,6 +562,12 @@ int main(int argc, char **argv)
     else if ((MODES & MODE_STORE) && argc == 4 && strcmp(mode, "store") == 0 &&
              number_in(argv[2], 1, MAX_SIZE, &first) && number_in(argv[3], 0, INT64_MAX, &n))
         store_pairs((size_t)first, n);
+    else if ((MODES & MODE_DEPARTS) && argc == 3 && strcmp(mode, "departs") == 0 &&
+             number_in(argv[2], 0, INT64_MAX, &n))
+        departs(n);
+    else if ((MODES & MODE_STORE_DEPARTS) && argc == 3 && strcmp(mode, "store_departs") == 0 &&
+             number_in(argv[2], 0, INT64_MAX, &n))
+        store_departs(n);
     else
         return usage();
     printf("%u\n", checksum);

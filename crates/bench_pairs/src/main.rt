@@ -22,6 +22,30 @@ fn begun(flows: usize) -> State
     s
 }
 
+// The state after an offer and a departure, with the checksum so far.
+struct Paired {
+    state: State,
+    check: u32,
+}
+
+// One offer and one departure. A function of its own, with no loop in it: so the compiler makes both calls on one copy of the state.
+fn pair(s: State, f: usize, size: usize, check: u32) -> Paired
+    requires { ⌜ Sound s ⌝ }
+    ensures { λ r. ⌜ Sound (r .state) ⌝ }
+{
+    let asked = s.offer(f, size);
+    let answer = asked.answer;
+    let told = sums::answered(check, answer);
+    let offered = asked.state;
+    let left = offered.depart();
+    let state = left.state;
+    let reply = left.reply;
+    Paired {
+        state: state,
+        check: sums::replied(told, reply),
+    }
+}
+
 fn pairs(flows: usize, n: u64) -> u32
     requires { ⌜ (0 < flows) × (flows ≤ 32) ⌝ }
 {
@@ -29,15 +53,9 @@ fn pairs(flows: usize, n: u64) -> u32
     let mut check: u32 = 0;
     let mut i: u64 = 0;
     while i < n {
-        let asked = s.offer((i % flows as u64) as usize, loops::size(i));
-        let answer = asked.answer;
-        check = sums::answered(check, answer);
-        // each state goes into a local of its own, which spares a copy of it
-        let offered = asked.state;
-        let left = offered.depart();
-        s = left.state;
-        let reply = left.reply;
-        check = sums::replied(check, reply);
+        let made = pair(s, (i % flows as u64) as usize, loops::size(i), check);
+        s = made.state;
+        check = made.check;
         i += 1;
     }
     check

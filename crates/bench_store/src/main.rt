@@ -4,6 +4,7 @@ ghost use Prim.Native.Nat.{_≤_, _<_};
 ghost use lib.ListN.{length};
 ghost use Rattle.err.specs.Limits.{sizeLimit};
 ghost use Rattle.store.specs.Promised.{SoundSite};
+use err::Answer;
 use err::Reply;
 use err::SIZE_LIMIT;
 use loops::sums;
@@ -50,6 +51,31 @@ fn replied(check: u32, reply: Reply, out: &[u8; SIZE_LIMIT]) -> u32 {
     }
 }
 
+// The site after an offer and a departure, with the answer and the reply.
+struct Paired {
+    site: Site,
+    answer: Answer,
+    reply: Reply,
+}
+
+// One packet in and one out. A function of its own, with no loop in it: so the compiler copies the site less often.
+fn pair(site: Site, f: usize, packet: &[u8], store: &mut [u8], out: &mut [u8]) -> Paired
+    requires { ⌜ SoundSite site ⌝ }
+    ensures { λ r. ⌜ SoundSite (r .site) ⌝ }
+{
+    let asked = site.offer(f, packet, store);
+    let answer = asked.answer;
+    let offered = asked.site;
+    let left = offered.depart(store, out);
+    let after = left.site;
+    let reply = left.reply;
+    Paired {
+        site: after,
+        answer: answer,
+        reply: reply,
+    }
+}
+
 fn pairs(size: usize, n: u64) -> u32
     requires { ⌜ (0 < size) × (size ≤ sizeLimit) ⌝ }
 {
@@ -63,15 +89,12 @@ fn pairs(size: usize, n: u64) -> u32
         let next = i + 1;
         packet[0] = (i % 256) as u8;
         packet[size - 1] = (next % 256) as u8;
-        let asked = site.offer((i % FLOWS as u64) as usize, &packet[..size], &mut store);
-        let answer = asked.answer;
-        check = sums::answered(check, answer);
-        // each site goes into a local of its own, which spares a copy of it
-        let offered = asked.site;
-        let left = offered.depart(&store, &mut out);
-        site = left.site;
-        let reply = left.reply;
-        check = replied(check, reply, &out);
+        let f = (i % FLOWS as u64) as usize;
+        let made = pair(site, f, &packet[..size], &mut store, &mut out);
+        site = made.site;
+        let answer = made.answer;
+        let reply = made.reply;
+        check = replied(sums::answered(check, answer), reply, &out);
         i = next;
     }
     check

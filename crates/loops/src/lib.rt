@@ -1,5 +1,8 @@
 // What the bench's loops share: the checksum, the sizes offered, the opened flows, and the program's arguments. bench/plain/README.md defines the loops.
 ghost use Rattle.order.specs.Encoding.{Sound};
+use err::FLOW_LIMIT;
+use err::QUEUE_LIMIT;
+use err::SIZE_LIMIT;
 use order::State;
 
 pub mod sums;
@@ -20,6 +23,25 @@ pub fn opened(flows: usize) -> State
         let asked = s.open(f, 1 + f % 4);
         s = asked.state;
         f += 1;
+    }
+    s
+}
+
+// The size of the k-th packet, or the largest.
+fn size_or_largest(mixed: bool, k: u64) -> usize {
+    if mixed { size(k) } else { SIZE_LIMIT }
+}
+
+// Every flow open, with eight packets waiting in each: of mixed sizes, or all of 256 bytes.
+pub fn filled(mixed: bool) -> State
+    ensures { λ s. ⌜ Sound s ⌝ }
+{
+    let mut s = opened(FLOW_LIMIT);
+    let mut k: u64 = 0;
+    while k < 256 {
+        let asked = s.offer((k / QUEUE_LIMIT as u64) as usize, size_or_largest(mixed, k));
+        s = asked.state;
+        k += 1;
     }
     s
 }

@@ -4,14 +4,16 @@ use mathlib.Core.Path.{_≡_, refl, sym, ap, _∙_}
 use mathlib.Core.List.{List, [], _∷_, _++_}
 use native.Mathlib.Omega.{arith}
 use native.Mathlib.Numerals.{sub-one}
-use lib.ListN.{length, length-append, length-drop}
+use lib.ListN.{length, getD, length-append, length-drop}
 use Rattle.err.specs.Limits.{weightLimit, queueLimit, sizeLimit}
 use Rattle.err.specs.Steps.{packetJoined, surplusCleared, firstSize, firstLeft, excessKept}
-use Rattle.err.proofs.Flows.{sizes-joined, first-small}
+use Rattle.err.proofs.Flows.{sizes-joined, first-small, none-is-empty}
 use Rattle.err.proofs.Choosing.{empty-by-count, waiting-by-count}
 use Rattle.order.specs.Encoding.{packed, encodeFlow, viewFlow}
 use Rattle.order.specs.Premises.{FlowReady, HasFirst, HasRoom}
+use Rattle.order.specs.Promised.{firstPlace}
 use Rattle.order.specs.declared.FlowCell.{FlowCell}
+use Rattle.order.specs.declared.Place.{Place}
 use Rattle.order.proofs.Packed.{packed-joined, packed-fits, packed-first, packed-left}
 use Rattle.order.proofs.Encoded.{waiting-is, sizes-are}
 
@@ -97,3 +99,16 @@ module _ (x : FlowCell) (h : HasFirst x) where
       same-cell refl refl refl
       (ap (λ (n : ℕ). n - 1) (waiting-is x (h .ready .form)) ∙ sym (length-drop 1 (viewFlow x .queue)))
       (ap (λ (m : ℕ). m / sizeLimit) (sizes-are x (h .ready .form)) ∙ packed-left (h .ready .rules .sizes-in-range) some)
+
+-- Where the first packet lies, by whether one waits.
+module _ (x : FlowCell) (ready : FlowReady x) (f : ℕ) where
+  pub no-first-place : x .waiting ≡ 0 → record { flow = f; slot = x .slot; size = 0 } ≡ firstPlace f (viewFlow x)
+  unfolding viewFlow
+  no-first-place e =
+      ap (λ (q : List ℕ). record { flow = f; slot = x .slot; size = getD q 0 0 }) (sym (none-is-empty (viewFlow x .queue) (sym (waiting-is x (ready .form)) ∙ e)))
+
+  pub some-first-place : (x .waiting ≡ 0 → ⊥) → (n : ℕ) → (HasFirst x → n ≡ firstSize (viewFlow x))
+      → record { flow = f; slot = x .slot; size = n } ≡ firstPlace f (viewFlow x)
+  unfolding viewFlow
+  some-first-place d n h =
+      ap (λ (k : ℕ). record { flow = f; slot = x .slot; size = k }) (h (record { ready = ready; waits = omega arith }))

@@ -4,6 +4,7 @@ use mathlib.Core.Path.{_≡_, refl, sym, ap, _∙_}
 use mathlib.Core.List.{List, [], _∷_, _++_}
 use mathlib.Core.Bool.{Bool, cond}
 use native.Mathlib.Omega.{arith}
+use native.Mathlib.Nat.{div-zero}
 use lib.ListN.{length, set, drop, length-append, length-drop}
 use borrow.Author.Tests.{le-leb, lt-leb}
 use Rattle.err.specs.Limits.{flowLimit}
@@ -130,6 +131,9 @@ pub not-raised : (running weight allowed sent : ℕ) → (allowed ≤ sent → �
 unfolding raised
 not-raised running weight allowed sent h =
     ap (λ (b : Bool). cond b (max running (roundedUp (sent - allowed) weight)) running) (sym (lt-leb allowed sent (omega arith)))
+
+pub by-zero : (excess weight : ℕ) → weight ≡ 0 → 0 ≡ roundedUp excess weight
+by-zero excess weight none = sym (ap (roundedUp excess) none ∙ div-zero (excess + (0 - 1)))
 
 -- A running mark whose product with the weight covers the excess is no less than the excess by weight, rounded up.
 module _ (running weight excess : ℕ) (some : 1 ≤ weight) where

@@ -25,12 +25,13 @@ use Rattle.err.proofs.Standing.{InRange, TurnFacts, HeadFacts, in-range, room-f
 use Rattle.err.proofs.Choosing.{positive-chosen, chosen-has}
 use Rattle.order.specs.Encoding.{encodeFlow, viewFlow, encode, view, Sound}
 use Rattle.order.specs.Premises.{RoundHeld, held, numbersOf, roundOf, encodeRound, viewRound, FlowReady, RoundReady, HasFirst, MayServe, MayBegin, MayVisit, VisitHeld, encodeVisit, heldVisit, OfferHeld, withLength, heldOffer, openedParts, offeredParts}
-use Rattle.order.specs.Promised.{answeredAs, departedAs, NewGives, OpenGives, OfferGives, DepartGives}
+use Rattle.order.specs.Promised.{answeredAs, firstPlace, nextPlace, departedAs, NewGives, OpenGives, OfferGives, DepartGives}
 use Rattle.order.specs.declared.Answered.{Answered}
 use Rattle.order.specs.declared.Offered.{Offered}
 use Rattle.order.specs.declared.Opened.{Opened}
 use Rattle.order.specs.declared.Departed.{Departed}
 use Rattle.order.specs.declared.FlowCell.{FlowCell}
+use Rattle.order.specs.declared.Place.{Place}
 use Rattle.order.specs.declared.RoundCell.{RoundCell}
 use Rattle.order.specs.declared.State.{State}
 use Rattle.order.specs.declared.Visited.{Visited}
@@ -188,6 +189,11 @@ module _ (c : State) (S : Sound c) where
           at-head = λ t d. head-ready (rw (e ∙ ap (λ (u : Serving). whoseTurn u (view c .round .line)) t) (head-facts (view c) (S .rules) t (omega (arith, length-is (roundOf c) round-form)))) d;
         }
 
+    place-seen : firstPlace at (viewFlow (getD (c .flows) at noCell)) ≡ nextPlace (view c)
+    unfolding view viewRound
+    place-seen =
+        ap (firstPlace at) (cell-seen at at-in-reach) ∙ ap (λ (k : ℕ). firstPlace k (flowAt (view c) k)) e
+
     module _ (v : Visited) (line : List ℕ) (g : heldVisit line v ≡ encodeVisit (visit (viewRound (roundOf c)) (viewFlow (getD (c .flows) at noCell)))) where
       visit-seen : heldVisit line v ≡ encodeVisit (nextVisit (view c))
       unfolding view viewRound
@@ -208,11 +214,12 @@ module _ (c : State) (S : Sound c) where
       unfolding departed encodeVisit
       departed-reply = ap (λ (k : VisitHeld). k .reply) visit-seen
 
-      pub departed-gives : DepartGives c (record { state = record { flows = set (c .flows) at (v .flow); line = line; round = v .round }; reply = v .reply })
+      pub departed-gives : (from : Place) → (FlowReady (getD (c .flows) at noCell) → from ≡ firstPlace at (viewFlow (getD (c .flows) at noCell)))
+          → DepartGives c (record { state = record { flows = set (c .flows) at (v .flow); line = line; round = v .round }; reply = v .reply; from = from })
       unfolding departedAs
-      departed-gives =
+      departed-gives from lay =
           record {
-            outcome = ap₂ (λ (t : State) (d : Reply). record { state = t; reply = d }) departed-state departed-reply;
+            outcome = λ i. record { state = departed-state i; reply = departed-reply i; from = (lay (cell-ready at at-in-reach) ∙ place-seen) i };
             sound = subst Sound (sym departed-state) (sound-of (departed (view c) .state) (departed-keeps (view c) (S .rules)));
           }
 

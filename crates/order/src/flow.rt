@@ -5,7 +5,9 @@ ghost use Rattle.err.specs.Limits.{sizeLimit, queueLimit};
 ghost use Rattle.err.specs.Steps.{packetJoined, surplusCleared, firstSize, firstLeft, excessKept};
 ghost use Rattle.order.specs.Encoding.{viewFlow, encodeFlow};
 ghost use Rattle.order.specs.Premises.{FlowReady, HasFirst, HasRoom};
+ghost use Rattle.order.specs.Promised.{firstPlace};
 use crate::FlowCell;
+use crate::Place;
 use err::QUEUE_LIMIT;
 use err::SIZE_LIMIT;
 
@@ -62,10 +64,29 @@ pub fn cleared(x: FlowCell) -> FlowCell
 
 // Step 3: the size of the first packet.
 pub fn first_size(x: FlowCell) -> u16
-    requires { ⌜ HasFirst x ⌝ }
-    ensures { λ r. ⌜ r ≡ firstSize (viewFlow x) ⌝ }
+    ensures { λ r. ⌜ (HasFirst x → r ≡ firstSize (viewFlow x)) ⌝ }
 {
     (x.sizes % BASE) as u16 + 1
+}
+
+// Where the first packet of flow f lies.
+pub fn first_place(f: usize, x: FlowCell) -> Place
+    ensures { λ r. ⌜ (FlowReady x → r ≡ firstPlace f (viewFlow x)) ⌝ }
+{
+    let slot = x.slot as usize;
+    if x.waiting == 0 {
+        Place {
+            flow: f,
+            slot: slot,
+            size: 0,
+        }
+    } else {
+        Place {
+            flow: f,
+            slot: slot,
+            size: first_size(x) as usize,
+        }
+    }
 }
 
 // Step 3: the first packet leaves.

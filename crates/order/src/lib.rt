@@ -68,9 +68,18 @@ pub struct Answered {
     pub answer: Answer,
 }
 
+// A departure also tells where the packet lay, for the layer that has its bytes.
 pub struct Departed {
     pub state: State,
     pub reply: Reply,
+    pub from: Place,
+}
+
+// A packet's flow, its slot there and its size; of size 0 where there is none.
+pub struct Place {
+    pub flow: usize,
+    pub slot: usize,
+    pub size: usize,
 }
 
 pub struct Counted {
@@ -156,10 +165,12 @@ impl State {
         self.flows[at] = rest;
         let after = gone.round;
         self.round = after;
+        let from = flow::first_place(at, flow);
         let reply = gone.reply;
         Departed {
             state: self,
             reply: reply,
+            from: from,
         }
     }
 

@@ -83,13 +83,26 @@ pub fn turn_kept(r: RoundCell, f: u8, allowed: u16, sent: u16) -> RoundCell
     }
 }
 
+// Step 5: the excess by the weight, rounded up. A turn's flow has no weight 0; it is asked all the same, since before a division that could trap the
+// compiler keeps a second copy of the state.
+fn rounded_up(excess: u16, weight: u16) -> u16
+    requires { ⌜ (weight ≤ weightLimit) × (excess < sentLimit) ⌝ }
+    ensures { λ n. ⌜ n ≡ roundedUp excess weight ⌝ }
+{
+    if weight == 0 {
+        0
+    } else {
+        (excess + (weight - 1)) / weight
+    }
+}
+
 // Step 5: the running mark, raised to this excess by weight, rounded up. Mostly it is high enough, and nothing is divided.
 fn raised_to(running: u16, weight: u16, excess: u16) -> u16
     requires { ⌜ (1 ≤ weight) × (weight ≤ weightLimit) × (running ≤ markLimit) × (excess < sentLimit) ⌝ }
     ensures { λ m. ⌜ m ≡ max running (roundedUp excess weight) ⌝ }
 {
     if running * weight < excess {
-        (excess + (weight - 1)) / weight
+        rounded_up(excess, weight)
     } else {
         running
     }

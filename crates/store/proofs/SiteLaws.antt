@@ -1,20 +1,19 @@
 -- From what the order layer's calls give to what a site's calls promise.
 use Prim.Native.Nat.{ℕ, suc, _+_, _-_, _%_, _≤_, _<_}
-use mathlib.Core.Path.{_≡_, refl, sym, ap, ap₂, _∙_}
+use mathlib.Core.Path.{_≡_, sym, ap, ap₂, _∙_, subst}
 use mathlib.Core.List.{List, [], _∷_, _++_}
 use native.Mathlib.Omega.{arith}
 use lib.ListN.{length, getD, drop, length-append}
 use Rattle.err.specs.Limits.{flowLimit, queueLimit, sizeLimit}
 use Rattle.err.specs.Model.{Flow, Scheduler, flowAt}
 use Rattle.err.specs.Choose.{ifZero}
-use Rattle.err.specs.Steps.{packetJoined, flowLined, nextSlot}
+use Rattle.err.specs.Steps.{packetJoined, flowLined, whose}
 use Rattle.err.specs.Calls.{put, offerRefusal, offered, unlessRefused, departed, answerOf}
 use Rattle.err.specs.Rules.{Rules}
 use Rattle.err.specs.declared.Answer.the-variants.{Done, Refused as AnswerRefused}
 use Rattle.err.specs.declared.Reply.{Reply}
-use Rattle.err.specs.declared.Reply.the-variants.{Departure, Refused}
-use Rattle.err.specs.declared.Sent.{Sent}
-use Rattle.err.proofs.Flows.{first-in-range, here-now}
+use Rattle.err.specs.declared.Reply.the-variants.{Refused}
+use Rattle.err.proofs.Flows.{first-small, here-now}
 use Rattle.err.proofs.Refusals.{MayOffer, may-offer}
 use Rattle.order.specs.Encoding.{viewFlow}
 use Rattle.order.specs.Premises.{FlowReady}
@@ -22,33 +21,28 @@ use Rattle.order.specs.Promised as order
 use Rattle.order.specs.declared.Answered.{Answered}
 use Rattle.order.specs.declared.Departed.{Departed}
 use Rattle.order.specs.declared.FlowCell.{FlowCell}
+use Rattle.order.specs.declared.Place.{Place}
 use Rattle.order.specs.declared.State.{State}
 use Rattle.order.proofs.Encoded.{waiting-is}
-use Rattle.order.proofs.StateLaws.{noCell, cell-seen, offer-seen, depart-seen}
+use Rattle.order.proofs.StateLaws.{noCell, cell-seen, offer-seen}
 use Rattle.store.specs.Slots.{storeLength, outLimit, nextSlotOf, written, held}
 use Rattle.store.specs.AfterCall.{slotBefore}
-use Rattle.store.specs.Calls.{storeOffer, storeOfferRefusal, storeDepart, storeDepartRefusal}
+use Rattle.store.specs.Calls.{storeOffer, storeOfferRefusal, storeDepart, storeDepartRefusal, sentOut}
 use Rattle.store.specs.Promised.{schedulerOf, SoundSite, siteOf, answeredAs, departedAs, NewGives, OpenGives, OfferGives, DepartGives}
 use Rattle.store.specs.declared.Site.{Site}
-use Rattle.store.proofs.CallLaws.{done-number, refused-number, offer-wrong-store, offer-right-store, offer-state, offer-answer, offer-refused, offer-stores, offer-number, depart-wrong-store, depart-short-out, depart-may, depart-refused, depart-made, sent-departure, sent-nothing}
-use Rattle.err.proofs.Departing.{Leaves, departed-leaves}
+use Rattle.store.proofs.CallLaws.{done-number, refused-number, offer-wrong-store, offer-right-store, offer-state, offer-answer, offer-refused, offer-stores, offer-number, depart-wrong-store, depart-short-out, depart-may, depart-refused, depart-made, sent-departure}
+use Rattle.err.proofs.Departing.{Leaves, departed-leaves, SendsOrStays, sends, stays, sends-or-stays}
+use Rattle.err.proofs.Standing.{nobody-waits, whose-in-reach}
 
 -- A slot before another is one of the flow's slots.
 pub before-in-reach : (k j : ℕ) → k ≡ slotBefore j → k < queueLimit
 before-in-reach k j e = omega arith
 
-before-next : (k : ℕ) → k < queueLimit → slotBefore (nextSlot k) ≡ k
-before-next k h = omega arith
-
--- The slots that are read off a flow's cell.
+-- The slot that is read off a flow's cell.
 module _ (x : FlowCell) (h : FlowReady x) where
   pub slots-fit : (x .slot < queueLimit) × (x .waiting ≤ queueLimit)
   unfolding viewFlow
   slots-fit = (h .rules .slot-in-range, omega (arith, waiting-is x (h .form), h .rules .waiting-in-range))
-
-  pub left-law : (x .slot + (queueLimit - 1)) % queueLimit ≡ slotBefore (viewFlow x .slot)
-  unfolding viewFlow
-  left-law = refl
 
   pub last-law : (x .slot + x .waiting + (queueLimit - 1)) % queueLimit ≡ slotBefore (nextSlotOf (viewFlow x))
   unfolding viewFlow
@@ -58,6 +52,27 @@ module _ (x : FlowCell) (h : FlowReady x) where
     where
       around : (n : ℕ) → (n + (queueLimit - 1)) % queueLimit ≡ (n % queueLimit + (queueLimit - 1)) % queueLimit
       around n = omega arith
+
+-- The outgoing buffer with the bytes that lie at a place put at its start.
+abbrev pub fetched : Place → List ℕ → List ℕ → List ℕ
+fetched p store out = held store (p .flow) (p .slot) (p .size) ++ drop (p .size) out
+
+-- A departure takes its bytes from the place that the order layer tells; of size 0, and so none, where nothing departs.
+sent-out-is-fetched : (s : Scheduler) → Rules s → (store out : List ℕ) → sentOut (departed s .reply) s store out ≡ fetched (order.nextPlace s) store out
+unfolding sentOut held
+sent-out-is-fetched s R store out = by (sends-or-stays s)
+  where
+    by : SendsOrStays s → sentOut (departed s .reply) s store out ≡ fetched (order.nextPlace s) store out
+    by (sends d i) =
+        let L : Leaves s d (departed s .state) = departed-leaves s R d i in
+        sent-departure s store out (departed s .reply) d i
+        ∙ ap (λ (n : ℕ). fetched (record { flow = d .flow; slot = flowAt s (d .flow) .slot; size = n }) store out)
+        (sym (ap (λ (q : List ℕ). getD q 0 0) (L .first-in-queue)))
+        ∙ ap (λ (k : ℕ). fetched (order.firstPlace k (flowAt s k)) store out) (L .had-the-turn)
+    by (stays i same t l) =
+        ap (λ (r : Reply). sentOut r s store out) i
+        ∙ ap (λ (q : List ℕ). fetched (record { flow = whose (s .round); slot = flowAt s (whose (s .round)) .slot; size = getD q 0 0 }) store out)
+        (sym (nobody-waits s R t l (whose (s .round))))
 
 pub new-law : (o : State) → order.NewGives o → NewGives (record { order = o })
 unfolding siteOf
@@ -184,9 +199,15 @@ module _ (site : Site) (S : SoundSite site) where
       may : storeDepartRefusal store out ≡ 0
       may = depart-may s store out all room
 
-      reply-is : a .reply ≡ departed s .reply
+      from-is : a .from ≡ order.nextPlace s
       unfolding schedulerOf order.departedAs
-      reply-is = ap (λ (k : Departed). k .reply) (g .outcome)
+      from-is = ap (λ (k : Departed). k .from) (g .outcome)
+
+      -- Where the packet lay is a place in the store.
+      pub from-fits : (a .from .flow < flowLimit) × (a .from .slot < queueLimit) × (a .from .size ≤ sizeLimit)
+      from-fits =
+          subst (λ (p : Place). (p .flow < flowLimit) × (p .slot < queueLimit) × (p .size ≤ sizeLimit)) (sym from-is)
+          (whose-in-reach s rules-of-site, rules-of-site .flow-rules (whose (s .round)) .slot-in-range, first-small (rules-of-site .flow-rules (whose (s .round)) .sizes-in-range))
 
       departure-outcome : record { site = record { order = a .state }; reply = a .reply }
           ≡ departedAs (storeDepart s store out .state) (storeDepart s store out .reply)
@@ -195,44 +216,14 @@ module _ (site : Site) (S : SoundSite site) where
           ap (λ (k : Departed). record { site = record { order = k .state }; reply = k .reply }) (g .outcome)
           ∙ sym (ap₂ departedAs (depart-made s store out may .0) (depart-made s store out may .2))
 
-      pub no-departure : ((d : Sent) → a .reply ≡ Departure d → ⊥)
-          → DepartGives site store out out (record { site = record { order = a .state }; reply = a .reply })
-      no-departure none =
+      pub sent-from-there : (after : List ℕ) → after ≡ fetched (a .from) store out
+          → DepartGives site store out after (record { site = record { order = a .state }; reply = a .reply })
+      sent-from-there after w =
           record {
             outcome = departure-outcome;
-            sent = sym (depart-made s store out may .1 ∙ sent-nothing s store out (departed s .reply) (λ d e. none d (reply-is ∙ e)));
+            sent =
+                w
+                ∙ ap (λ (p : Place). fetched p store out) from-is
+                ∙ sym (depart-made s store out may .1 ∙ sent-out-is-fetched s rules-of-site store out);
             sound = g .sound;
           }
-
-      module _ (d : Sent) (e : a .reply ≡ Departure d) where
-        pub leaves : Leaves s d (departed s .state)
-        unfolding schedulerOf
-        leaves = departed-leaves s (S .rules) d (sym reply-is ∙ e)
-
-        pub flow-in-reach : d .flow < flowLimit
-        flow-in-reach = leaves .in-reach
-
-        pub size-in-range : d .size ≤ sizeLimit
-        size-in-range = first-in-range (rw (leaves .first-in-queue) at (rules-of-site .flow-rules (d .flow) .sizes-in-range)) .1
-
-        slot-left : slotBefore (viewFlow (getD (a .state .flows) (d .flow) noCell) .slot) ≡ flowAt s (d .flow) .slot
-        unfolding schedulerOf
-        slot-left =
-            ap (λ (x : Flow). slotBefore (x .slot))
-            (cell-seen (a .state) (g .sound) (d .flow) flow-in-reach ∙ ap (λ (t : Scheduler). flowAt t (d .flow)) (depart-seen S g))
-            ∙ ap slotBefore (leaves .slot-moves-on)
-            ∙ before-next (flowAt s (d .flow) .slot) (rules-of-site .flow-rules (d .flow) .slot-in-range)
-
-        -- The bytes lay in the slot that was the flow's first.
-        pub sent-departed : (k : ℕ) (after : List ℕ) → k ≡ slotBefore (viewFlow (getD (a .state .flows) (d .flow) noCell) .slot)
-            → after ≡ held store (d .flow) k (d .size) ++ drop (d .size) out
-            → DepartGives site store out after (record { site = record { order = a .state }; reply = Departure d })
-        sent-departed k after at w =
-            record {
-              outcome = ap (λ (r : Reply). record { site = record { order = a .state }; reply = r }) (sym e) ∙ departure-outcome;
-              sent =
-                  w
-                  ∙ ap (λ (j : ℕ). held store (d .flow) j (d .size) ++ drop (d .size) out) (at ∙ slot-left)
-                  ∙ sym (depart-made s store out may .1 ∙ sent-departure s store out (departed s .reply) d (sym reply-is ∙ e));
-              sound = g .sound;
-            }

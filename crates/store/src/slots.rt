@@ -21,14 +21,6 @@ fn start(f: usize, k: usize) -> usize
     SIZE_LIMIT * (QUEUE_LIMIT as usize * f + k)
 }
 
-// The slot of the packet that a departure took from the flow: the one before the flow's first.
-pub fn left(x: FlowCell) -> usize
-    requires { ⌜ FlowReady x ⌝ }
-    ensures { λ k. ⌜ k ≡ slotBefore (viewFlow x .slot) ⌝ }
-{
-    ((x.slot + (QUEUE_LIMIT - 1)) % QUEUE_LIMIT) as usize
-}
-
 // The slot of the packet that an offer put last in the flow: the one before that which the next will take.
 pub fn last(x: FlowCell) -> usize
     requires { ⌜ FlowReady x ⌝ }

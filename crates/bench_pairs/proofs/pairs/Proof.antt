@@ -1,4 +1,4 @@
--- Every call is made on a sound state.
+-- Every pair of calls starts from a sound state.
 use Prim.Native.Nat.{_-_}
 use borrow.Author.Needs.{needs}
 use Rattle.order.specs.Encoding.{Sound}
@@ -17,23 +17,14 @@ begun-requires c κs = search needs
 loop-holds : tie.Need-loop-holds Inv-loop μ-loop
 loop-holds c = search needs
 
-rem-offer : tie.Need-rem-offer Inv-loop μ-loop
-rem-offer c = search needs
+rem-pair : tie.Need-rem-pair Inv-loop μ-loop
+rem-pair c = search needs
 
 size-requires : tie.Need-size-requires Inv-loop μ-loop
 size-requires c κs = search needs
 
-offer-requires : tie.Need-offer-requires Inv-loop μ-loop
-offer-requires c κs = search needs
-
-answered-requires : tie.Need-answered-requires Inv-loop μ-loop
-answered-requires c κs = search needs
-
-depart-requires : tie.Need-depart-requires Inv-loop μ-loop
-depart-requires c κs = search needs
-
-replied-requires : tie.Need-replied-requires Inv-loop μ-loop
-replied-requires c κs = search needs
+pair-requires : tie.Need-pair-requires Inv-loop μ-loop
+pair-requires c κs = search needs
 
 add-i : tie.Need-add-i Inv-loop μ-loop
 add-i c = search needs
@@ -55,12 +46,9 @@ pairs-spec =
     μ-loop
     begun-requires
     loop-holds
-    rem-offer
+    rem-pair
     size-requires
-    offer-requires
-    answered-requires
-    depart-requires
-    replied-requires
+    pair-requires
     add-i
     loop-less
     loop-again

@@ -1,4 +1,4 @@
--- Every call is made on a sound site, and buffers keep their lengths.
+-- Every pair of calls starts from a sound site, and buffers keep their lengths.
 use Prim.Native.Nat.{_-_}
 use mathlib.Core.Path.{_≡_}
 use native.Mathlib.Omega.{arith}
@@ -45,32 +45,26 @@ sub-packet c = search needs
 array-write-packet-2 : tie.Need-array-write-packet-2 Inv-loop μ-loop
 array-write-packet-2 c = search needs
 
-rem-offer : tie.Need-rem-offer Inv-loop μ-loop
-rem-offer c = search needs
+rem-f : tie.Need-rem-f Inv-loop μ-loop
+rem-f c = search needs
 
 array-share-prefix-packet : tie.Need-array-share-prefix-packet Inv-loop μ-loop
 array-share-prefix-packet c = within _ (c .before .loop .packet) _ _ _ _ (omega arith)
 
-slice-aggregate-offer : tie.Need-slice-aggregate-offer Inv-loop μ-loop
-slice-aggregate-offer c = as-many _ (c .before .before .loop .packet) _ _ _ _ (omega arith)
+slice-aggregate-pair : tie.Need-slice-aggregate-pair Inv-loop μ-loop
+slice-aggregate-pair c = as-many _ (c .before .before .loop .packet) _ _ _ _ (omega arith)
 
-slice-aggregate-offer-2 : tie.Need-slice-aggregate-offer-2 Inv-loop μ-loop
-slice-aggregate-offer-2 c = search needs
+slice-aggregate-pair-2 : tie.Need-slice-aggregate-pair-2 Inv-loop μ-loop
+slice-aggregate-pair-2 c = search needs
 
-offer-requires : tie.Need-offer-requires Inv-loop μ-loop
-offer-requires c κs = c .before .before .before .loop .inv .0
+slice-aggregate-pair-3 : tie.Need-slice-aggregate-pair-3 Inv-loop μ-loop
+slice-aggregate-pair-3 c = search needs
+
+pair-requires : tie.Need-pair-requires Inv-loop μ-loop
+pair-requires c κs = search needs
 
 answered-requires : tie.Need-answered-requires Inv-loop μ-loop
 answered-requires c κs = tt
-
-slice-aggregate-depart : tie.Need-slice-aggregate-depart Inv-loop μ-loop
-slice-aggregate-depart c = search needs
-
-slice-aggregate-depart-2 : tie.Need-slice-aggregate-depart-2 Inv-loop μ-loop
-slice-aggregate-depart-2 c = search needs
-
-depart-requires : tie.Need-depart-requires Inv-loop μ-loop
-depart-requires c κs = c .before .before .before .before .before .offer .ensures .sound
 
 replied-requires : tie.Need-replied-requires Inv-loop μ-loop
 replied-requires c κs = tt
@@ -100,15 +94,13 @@ pairs-spec =
     cast-packet-2
     sub-packet
     array-write-packet-2
-    rem-offer
+    rem-f
     array-share-prefix-packet
-    slice-aggregate-offer
-    slice-aggregate-offer-2
-    offer-requires
+    slice-aggregate-pair
+    slice-aggregate-pair-2
+    slice-aggregate-pair-3
+    pair-requires
     answered-requires
-    slice-aggregate-depart
-    slice-aggregate-depart-2
-    depart-requires
     replied-requires
     loop-less
     loop-again

@@ -45,13 +45,17 @@ element-set-from-rest c =
     omega
     (arith, at-in-reach (start .args .t1) (start .pre) (whose .result) (whose .ensures (start .args .t1 .line) (round-of-sound (start .args .t1) (start .pre)) refl))
 
+first-place-requires : tie.Need-first-place-requires
+first-place-requires c κs = search needs
+
 returns : tie.Need-returns
 returns c =
-    let start = c .before .before .before .before .before .before .before .before in
-    let whose = c .before .before .before .before .before .whose in
-    let visit = c .before .before .visit in
+    let start = c .before .before .before .before .before .before .before .before .before in
+    let whose = c .before .before .before .before .before .before .whose in
+    let visit = c .before .before .before .visit in
     departed-gives (start .args .t1) (start .pre) (whose .result)
     (whose .ensures (start .args .t1 .line) (round-of-sound (start .args .t1) (start .pre)) refl) (visit .result) (visit .last .0) (visit .ensures)
+    (c .first-place .result) (c .first-place .ensures)
 
 pub depart-spec : {M : Type 1} → statement M
 depart-spec =
@@ -64,4 +68,5 @@ depart-spec =
     visit-requires
     mul-rest
     element-set-from-rest
+    first-place-requires
     returns)

@@ -11,7 +11,7 @@ add-result : tie.Need-add-result
 add-result c = search needs
 
 returns : tie.Need-returns
-returns c = first-size-law (c .before .args .x) (c .before .pre)
+returns c = first-size-law (c .before .args .x)
 
 pub first-size-spec : {M : Type 1} → statement M
 first-size-spec = tie.close (tie.spec cast-result add-result returns)

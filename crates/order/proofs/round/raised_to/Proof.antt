@@ -1,4 +1,5 @@
 -- It is raised just where its product with the weight falls short of the excess.
+use mathlib.Core.Path.{_∙_}
 use borrow.Author.Needs.{needs}
 use native.Mathlib.Omega.{arith}
 use native.Mathlib.Nat.{mul-le-mul}
@@ -9,20 +10,18 @@ use Rattle.order.proofs.round.raised_to.Tie as tie
 mul-if1 : tie.Need-mul-if1
 mul-if1 c = omega (arith, mul-le-mul (c .pre .2) (c .pre .1))
 
-sub-result : tie.Need-sub-result
-sub-result c = search needs
-
-add-result : tie.Need-add-result
-add-result c = search needs
-
-div-result : tie.Need-div-result
-div-result c = search needs
+rounded-up-requires : tie.Need-rounded-up-requires
+rounded-up-requires c κs = search needs
 
 returns : tie.Need-returns
-returns c = too-low (c .before .args .running) (c .before .args .weight) (c .before .args .excess) (c .before .pre .0) (c .if1 .taken)
+returns c =
+    let start = c .before .before in
+    c .rounded-up .ensures ∙ too-low (start .args .running) (start .args .weight) (start .args .excess) (start .pre .0) (c .before .if1 .taken)
 
 returns-2 : tie.Need-returns-2
-returns-2 c = high-enough (c .before .args .running) (c .before .args .weight) (c .before .args .excess) (c .before .pre .0) (c .if1 .left)
+returns-2 c =
+    let start = c .before in
+    high-enough (start .args .running) (start .args .weight) (start .args .excess) (start .pre .0) (c .if1 .left)
 
 pub raised-to-spec : {M : Type 1} → statement M
-raised-to-spec = tie.close (tie.spec mul-if1 sub-result add-result div-result returns returns-2)
+raised-to-spec = tie.close (tie.spec mul-if1 rounded-up-requires returns returns-2)

@@ -14,7 +14,7 @@ add-total : tie.Need-add-total
 add-total c =
     let start = c .before in
     omega
-    (arith, sent-small (held (now (start .args .line)) (start .args .r)) (start .args .x) (start .args .allowed) (start .args .sent) (start .pre) (c .first-size .result) (c .first-size .ensures))
+    (arith, sent-small (held (now (start .args .line)) (start .args .r)) (start .args .x) (start .args .allowed) (start .args .sent) (start .pre) (c .first-size .result) (c .first-size .ensures (start .pre .has-first)))
 
 first-left-requires : tie.Need-first-left-requires
 first-left-requires c κs = search needs
@@ -25,7 +25,7 @@ turn-emptied-requires c κs =
     let first-size = c .before .before .before .first-size in
     let first-left = c .before .before .first-left in
     may-empty (held (now (start .args .line)) (start .args .r)) (start .args .x) (start .args .allowed) (start .args .sent) (start .pre)
-    (first-left .result) (first-left .ensures) (first-size .result) (first-size .ensures) (c .if1 .taken)
+    (first-left .result) (first-left .ensures) (first-size .result) (first-size .ensures (start .pre .has-first)) (c .if1 .taken)
 
 cleared-requires : tie.Need-cleared-requires
 cleared-requires c κs =
@@ -42,7 +42,7 @@ returns c =
     let if1 = c .before .before .if1 in
     let turn-emptied = c .before .turn-emptied in
     emptied-visit (held (now (start .args .line)) (start .args .r)) (start .args .x) (start .args .allowed) (start .args .sent) (start .pre)
-    (first-left .result) (first-left .ensures) (start .args .f) (first-size .result) (first-size .ensures)
+    (first-left .result) (first-left .ensures) (start .args .f) (first-size .result) (first-size .ensures (start .pre .has-first))
     (held (now (start .args .line)) (turn-emptied .result)) (c .cleared .result) (if1 .taken)
     (turn-emptied .ensures (start .args .f) (now (start .args .line)) (start .pre .round-ready)) (c .cleared .ensures)
 
@@ -54,7 +54,7 @@ turn-closed-requires c κs =
     let if1 = c .before .before .if1 in
     let if2 = c .before .if2 in
     may-close (held (now (start .args .line)) (start .args .r)) (start .args .x) (start .args .allowed) (start .args .sent) (start .pre)
-    (first-left .result) (first-left .ensures) (first-size .result) (first-size .ensures) (if1 .left) (omega (arith, if2 .taken))
+    (first-left .result) (first-left .ensures) (first-size .result) (first-size .ensures (start .pre .has-first)) (if1 .left) (omega (arith, if2 .taken))
 
 excess-kept-requires : tie.Need-excess-kept-requires
 excess-kept-requires c κs =
@@ -64,7 +64,7 @@ excess-kept-requires c κs =
     let if1 = c .before .before .before .if1 in
     let if2 = c .before .before .if2 in
     may-keep (held (now (start .args .line)) (start .args .r)) (start .args .x) (start .args .allowed) (start .args .sent) (start .pre)
-    (first-left .result) (first-left .ensures) (first-size .result) (first-size .ensures) (if1 .left) (omega (arith, if2 .taken))
+    (first-left .result) (first-left .ensures) (first-size .result) (first-size .ensures (start .pre .has-first)) (if1 .left) (omega (arith, if2 .taken))
 
 returns-2 : tie.Need-returns-2
 returns-2 c =
@@ -75,7 +75,7 @@ returns-2 c =
     let if2 = c .before .before .before .if2 in
     let turn-closed = c .before .turn-closed in
     closed-visit (held (now (start .args .line)) (start .args .r)) (start .args .x) (start .args .allowed) (start .args .sent) (start .pre)
-    (first-left .result) (first-left .ensures) (start .args .f) (first-size .result) (first-size .ensures)
+    (first-left .result) (first-left .ensures) (start .args .f) (first-size .result) (first-size .ensures (start .pre .has-first))
     (held (turn-closed .last .0) (turn-closed .result)) (c .excess-kept .result) (if1 .left) (omega (arith, if2 .taken)) (turn-closed .ensures)
     (c .excess-kept .ensures)
 
@@ -90,7 +90,7 @@ returns-3 c =
     let if1 = c .before .before .if1 in
     let if2 = c .before .if2 in
     open-visit (held (now (start .args .line)) (start .args .r)) (start .args .x) (start .args .allowed) (start .args .sent) (start .pre)
-    (first-left .result) (first-left .ensures) (start .args .f) (first-size .result) (first-size .ensures)
+    (first-left .result) (first-left .ensures) (start .args .f) (first-size .result) (first-size .ensures (start .pre .has-first))
     (held (now (start .args .line)) (c .turn-kept .result)) (if1 .left) (λ e. omega (arith, if2 .left))
     (c .turn-kept .ensures (now (start .args .line)) (start .pre .round-ready))
 

@@ -2,14 +2,14 @@
 use Prim.Native.Nat.{_-_}
 use borrow.Author.Needs.{needs}
 use Rattle.order.specs.Encoding.{Sound}
-use Rattle.bench_again.proofs.filled.Statement.{statement}
-use Rattle.bench_again.proofs.filled.Tie as tie
+use Rattle.loops.proofs.filled.Statement.{statement}
+use Rattle.loops.proofs.filled.Tie as tie
 
 abbrev Inv-loop : tie.InvT-loop
-Inv-loop s₀ k₀ s k = Sound s
+Inv-loop mixed s₀ k₀ s k = Sound s
 
 abbrev μ-loop : tie.MeasureT-loop
-μ-loop s₀ k₀ s k = 256 - k
+μ-loop mixed s₀ k₀ s k = 256 - k
 
 opened-requires : tie.Need-opened-requires Inv-loop μ-loop
 opened-requires c κs = search needs
@@ -17,8 +17,14 @@ opened-requires c κs = search needs
 loop-holds : tie.Need-loop-holds Inv-loop μ-loop
 loop-holds c = search needs
 
-size-requires : tie.Need-size-requires Inv-loop μ-loop
-size-requires c κs = search needs
+cast-offer : tie.Need-cast-offer Inv-loop μ-loop
+cast-offer c = search needs
+
+div-offer : tie.Need-div-offer Inv-loop μ-loop
+div-offer c = search needs
+
+size-or-largest-requires : tie.Need-size-or-largest-requires Inv-loop μ-loop
+size-or-largest-requires c κs = search needs
 
 offer-requires : tie.Need-offer-requires Inv-loop μ-loop
 offer-requires c κs = search needs
@@ -43,7 +49,9 @@ filled-spec =
     μ-loop
     opened-requires
     loop-holds
-    size-requires
+    cast-offer
+    div-offer
+    size-or-largest-requires
     offer-requires
     add-k
     loop-less

@@ -1,0 +1,70 @@
+// The loop `store_departs` of bench/plain/README.md: 100 store departures from one full site, one call each.
+ghost use Rattle.store.specs.Promised.{SoundSite};
+use err::FLOW_LIMIT;
+use err::QUEUE_LIMIT;
+use err::SIZE_LIMIT;
+use loops::sums;
+use loops::words;
+use store::Site;
+
+// Every flow open, by weights of 1 to 4.
+fn opened() -> Site
+    ensures { λ s. ⌜ SoundSite s ⌝ }
+{
+    let mut site = Site::new();
+    let mut f = 0;
+    while f < FLOW_LIMIT {
+        let asked = site.open(f, 1 + f % 4);
+        site = asked.site;
+        f += 1;
+    }
+    site
+}
+
+// Eight packets of 256 bytes in each flow, and so the whole store: the bytes of packet k are all k.
+fn filled(store: &mut [u8]) -> Site
+    ensures { λ s. ⌜ SoundSite s ⌝ }
+{
+    let mut site = opened();
+    let mut k = 0;
+    while k < 256 {
+        let packet = [(k % 256) as u8; SIZE_LIMIT];
+        let asked = site.offer(k / QUEUE_LIMIT as usize, &packet, store);
+        site = asked.site;
+        k += 1;
+    }
+    site
+}
+
+fn departs(n: u64) -> u32 {
+    let mut store = io::large_buffer();
+    let full = filled(&mut store);
+    let mut out = [0u8; SIZE_LIMIT];
+    let mut check: u32 = 0;
+    let mut i: u64 = 0;
+    while i < n {
+        let mut site = full;
+        let mut made: u64 = 0;
+        while made < 100 {
+            let left = site.depart(&store, &mut out);
+            site = left.site;
+            let reply = left.reply;
+            check = sums::replied(check, reply);
+            made += 1;
+        }
+        check = sums::fold_byte(sums::fold_byte(check, out[0]), out[SIZE_LIMIT - 1]);
+        i += 1;
+    }
+    check
+}
+
+fn main() {
+    let n = words::number(1, words::RUN_LIMIT);
+    if os::arg_count() == 2 {
+        if 0 < n {
+            words::show(departs(n));
+            return;
+        }
+    }
+    words::usage(b"usage: bench_store_departs N   N from 1 to 999999999999\n");
+}
