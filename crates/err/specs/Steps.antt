@@ -57,6 +57,10 @@ firstSize x = getD (x .queue) 0 0
 abbrev pub nextSlot : ℕ → ℕ
 nextSlot k = (k + 1) % queueLimit
 
+-- A flow's first packet since reset takes slot 0; each later one takes the next slot.
+abbrev pub nextSlotOf : Flow → ℕ
+nextSlotOf x = (x .slot + length (x .queue)) % queueLimit
+
 unfoldable pub firstLeft : Flow → Flow
 firstLeft x = record { weight = x .weight; surplus = x .surplus; slot = nextSlot (x .slot); queue = drop 1 (x .queue) }
 

@@ -9,17 +9,19 @@ use Rattle.err.specs.declared.Answer.the-variants.{Done, Refused}
 use Rattle.err.proofs.Refusals.{MayOpen, may-open, MayOffer, may-offer}
 use Rattle.err.proofs.Choosing.{zero-chosen, positive-chosen}
 use Rattle.order.specs.Encoding.{packed, encodeFlow, viewFlow}
+use Rattle.order.specs.Places.{endPlace, nowhere}
 use Rattle.order.specs.Premises.{RoundHeld, encodeRound, viewRound, FlowReady, RoundReady, HasRoom, OfferHeld, openedParts, offeredParts}
 use Rattle.order.specs.declared.FlowCell.{FlowCell}
 use Rattle.order.specs.declared.Opened.{Opened}
+use Rattle.order.specs.declared.Place.{Place}
 use Rattle.order.proofs.Encoded.{waiting-is}
 
 same-opened : {x x′ : FlowCell} {d d′ : Answer} → x ≡ x′ → d ≡ d′ → _≡_ {A = Opened} (record { flow = x; answer = d }) (record { flow = x′; answer = d′ })
 same-opened a b = λ i. record { flow = a i; answer = b i }
 
-same-offered : {r r′ : RoundHeld} {x x′ : FlowCell} {d d′ : Answer} → r ≡ r′ → x ≡ x′ → d ≡ d′
-    → _≡_ {A = OfferHeld} (record { round = r; flow = x; answer = d }) (record { round = r′; flow = x′; answer = d′ })
-same-offered a b c = λ i. record { round = a i; flow = b i; answer = c i }
+same-offered : {r r′ : RoundHeld} {x x′ : FlowCell} {d d′ : Answer} {p p′ : Place} → r ≡ r′ → x ≡ x′ → d ≡ d′ → p ≡ p′
+    → _≡_ {A = OfferHeld} (record { round = r; flow = x; answer = d; into = p }) (record { round = r′; flow = x′; answer = d′; into = p′ })
+same-offered a b c e = λ i. record { round = a i; flow = b i; answer = c i; into = e i }
 
 module _ (x : FlowCell) (f n : ℕ) (ready : FlowReady x) where
   module _ (weight : ℕ) (e : n ≡ openRefusal f weight (viewFlow x)) where
@@ -55,19 +57,23 @@ module _ (x : FlowCell) (f n : ℕ) (ready : FlowReady x) where
           size-small = may-offer-here z .size-small;
         }
 
-    pub offered-law : (r line : RoundHeld) (queue : FlowCell) → n ≡ 0 → line ≡ encodeRound (flowLined (viewRound r) f (viewFlow x))
-        → queue ≡ encodeFlow (packetJoined (viewFlow x) size) → record { round = line; flow = queue; answer = Done } ≡ offeredParts r x f size
+    pub offered-law : (r line : RoundHeld) (queue : FlowCell) (end : Place) → n ≡ 0 → line ≡ encodeRound (flowLined (viewRound r) f (viewFlow x))
+        → queue ≡ encodeFlow (packetJoined (viewFlow x) size) → end ≡ endPlace f (viewFlow x) size
+        → record { round = line; flow = queue; answer = Done; into = end } ≡ offeredParts r x f size
     unfolding offeredParts
-    offered-law r line queue z a b =
+    offered-law r line queue end z a b p =
         same-offered
         (a ∙ ap encodeRound (sym (zero-chosen (offerRefusal f size (viewFlow x)) (flowLined (viewRound r) f (viewFlow x)) (viewRound r) (sym e ∙ z))))
         (b ∙ ap encodeFlow (sym (zero-chosen (offerRefusal f size (viewFlow x)) (packetJoined (viewFlow x) size) (viewFlow x) (sym e ∙ z))))
         (sym (ap answerOf (sym e ∙ z)))
+        (p ∙ sym (zero-chosen (offerRefusal f size (viewFlow x)) (endPlace f (viewFlow x) size) nowhere (sym e ∙ z)))
 
-    pub offer-refused-law : (r : RoundHeld) → RoundReady r → (n ≡ 0 → ⊥) → record { round = r; flow = x; answer = Refused n } ≡ offeredParts r x f size
+    pub offer-refused-law : (r : RoundHeld) → RoundReady r → (n ≡ 0 → ⊥)
+        → record { round = r; flow = x; answer = Refused n; into = nowhere } ≡ offeredParts r x f size
     unfolding offeredParts
     offer-refused-law r round d =
         same-offered
         (round .form ∙ ap encodeRound (sym (positive-chosen (offerRefusal f size (viewFlow x)) (flowLined (viewRound r) f (viewFlow x)) (viewRound r) (λ z. d (e ∙ z)))))
         (ready .form ∙ ap encodeFlow (sym (positive-chosen (offerRefusal f size (viewFlow x)) (packetJoined (viewFlow x) size) (viewFlow x) (λ z. d (e ∙ z)))))
         (sym (positive-chosen n Done (Refused n) d) ∙ ap answerOf e)
+        (sym (positive-chosen (offerRefusal f size (viewFlow x)) (endPlace f (viewFlow x) size) nowhere (λ z. d (e ∙ z))))

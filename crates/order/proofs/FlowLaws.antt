@@ -11,9 +11,8 @@ use Rattle.err.proofs.Flows.{sizes-joined, first-small, none-is-empty}
 use Rattle.err.proofs.Choosing.{empty-by-count, waiting-by-count}
 use Rattle.order.specs.Encoding.{packed, encodeFlow, viewFlow}
 use Rattle.order.specs.Premises.{FlowReady, HasFirst, HasRoom}
-use Rattle.order.specs.Promised.{firstPlace}
+use Rattle.order.specs.Places.{firstPlace, endPlace}
 use Rattle.order.specs.declared.FlowCell.{FlowCell}
-use Rattle.order.specs.declared.Place.{Place}
 use Rattle.order.proofs.Packed.{packed-joined, packed-fits, packed-first, packed-left}
 use Rattle.order.proofs.Encoded.{waiting-is, sizes-are}
 
@@ -112,3 +111,13 @@ module _ (x : FlowCell) (ready : FlowReady x) (f : ℕ) where
   unfolding viewFlow
   some-first-place d n h =
       ap (λ (k : ℕ). record { flow = f; slot = x .slot; size = k }) (h (record { ready = ready; waits = omega arith }))
+
+-- Where a packet lies once it has joined: slots follow each other, first to last.
+module _ (x : FlowCell) (ready : FlowReady x) where
+  pub slot-fits : (x .slot < queueLimit) × (x .waiting ≤ queueLimit)
+  unfolding viewFlow
+  slot-fits = (ready .rules .slot-in-range, omega (arith, waiting-is x (ready .form), ready .rules .waiting-in-range))
+
+  pub end-place-law : (f size : ℕ) → record { flow = f; slot = (x .slot + x .waiting) % queueLimit; size = size } ≡ endPlace f (viewFlow x) size
+  unfolding viewFlow
+  end-place-law f size = ap (λ (n : ℕ). record { flow = f; slot = (x .slot + n) % queueLimit; size = size }) (waiting-is x (ready .form))

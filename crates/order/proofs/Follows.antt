@@ -10,11 +10,12 @@ use Rattle.err.proofs.Demand2.{every-state-keeps-the-rules}
 use Rattle.err.proofs.Standing.{never-twice}
 use Rattle.err.proofs.Chains.{chain-append}
 use Rattle.order.specs.Encoding.{encode, view, Sound}
-use Rattle.order.specs.Promised.{answeredAs, departedAs, countedAs}
+use Rattle.order.specs.Promised.{answeredAs, offeredAs, departedAs, countedAs}
 use Rattle.order.specs.Runs.{Run, begins, then-resets, then-opens, then-offers, then-departs, then-bursts}
 use Rattle.order.specs.declared.State.{State}
 use Rattle.order.specs.declared.Answered.{Answered}
 use Rattle.order.specs.declared.Departed.{Departed}
+use Rattle.order.specs.declared.Placed.{Placed}
 use Rattle.order.specs.declared.Counted.{Counted}
 use Rattle.order.proofs.StateLaws.{seen-as}
 
@@ -30,7 +31,7 @@ view-is : (calls : List Call) {c : State} → c ≡ encode (behind calls) → vi
 view-is calls = seen-as (every-state-keeps-the-rules calls)
 
 pub follows-the-model : {calls : List Call} {c : State} → Run calls c → c ≡ encode (behind calls)
-unfolding after answeredAs departedAs countedAs chain start
+unfolding after answeredAs offeredAs departedAs countedAs chain start
 follows-the-model (begins g) = g .outcome
 follows-the-model (then-resets {calls} run g) = g .outcome ∙ ap encode (sym (behind-one-more calls resetting))
 follows-the-model (then-opens {calls} {c} {f} {weight} run g) =
@@ -38,7 +39,7 @@ follows-the-model (then-opens {calls} {c} {f} {weight} run g) =
     ∙ ap (λ (s : Scheduler). encode (opened s f weight .state)) (view-is calls (follows-the-model run))
     ∙ ap encode (sym (behind-one-more calls (opening f weight)))
 follows-the-model (then-offers {calls} {c} {f} {size} run g) =
-    ap (λ (r : Answered). r .state) (g .outcome)
+    ap (λ (r : Placed). r .state) (g .outcome)
     ∙ ap (λ (s : Scheduler). encode (offered s f size .state)) (view-is calls (follows-the-model run))
     ∙ ap encode (sym (behind-one-more calls (offering f size)))
 follows-the-model (then-departs {calls} {c} run g) =

@@ -6,6 +6,7 @@ use Rattle.order.specs.Promised.{NewGives, OpenGives, OfferGives, Depart
 use Rattle.order.specs.declared.State.{State}
 use Rattle.order.specs.declared.Answered.{Answered}
 use Rattle.order.specs.declared.Departed.{Departed}
+use Rattle.order.specs.declared.Placed.{Placed}
 use Rattle.order.specs.declared.Counted.{Counted}
 
 -- New and reset.
@@ -15,7 +16,7 @@ new-settled p q = p .outcome ∙ sym (q .outcome)
 pub open-settled : {s : State} {f weight : ℕ} {a b : Answered} → OpenGives s f weight a → OpenGives s f weight b → a ≡ b
 open-settled p q = p .outcome ∙ sym (q .outcome)
 
-pub offer-settled : {s : State} {f size : ℕ} {a b : Answered} → OfferGives s f size a → OfferGives s f size b → a ≡ b
+pub offer-settled : {s : State} {f size : ℕ} {a b : Placed} → OfferGives s f size a → OfferGives s f size b → a ≡ b
 offer-settled p q = p .outcome ∙ sym (q .outcome)
 
 pub depart-settled : {s : State} {a b : Departed} → DepartGives s a → DepartGives s b → a ≡ b

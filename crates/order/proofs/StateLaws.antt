@@ -16,7 +16,6 @@ use Rattle.err.specs.Steps.{visit, whose, whoseTurn, packetJoined, flowLined}
 use Rattle.err.specs.Calls.{put, unlessRefused, openRefusal, offerRefusal, openFlow, answerOf, opened, offered, departed, nextVisit}
 use Rattle.err.specs.Rules.{Sizes, Rules}
 use Rattle.err.specs.declared.Answer.{Answer}
-use Rattle.err.specs.declared.Reply.{Reply}
 use Rattle.err.specs.declared.Serving.{Serving}
 use Rattle.err.specs.declared.Serving.the-variants.{Turn}
 use Rattle.err.proofs.Flows.{put-back, none-is-empty}
@@ -24,14 +23,16 @@ use Rattle.err.proofs.Keeps.{new-keeps, opened-keeps, offered-keeps, departed-k
 use Rattle.err.proofs.Standing.{InRange, TurnFacts, HeadFacts, in-range, room-for-another, turn-facts, head-facts, whose-in-reach}
 use Rattle.err.proofs.Choosing.{positive-chosen, chosen-has}
 use Rattle.order.specs.Encoding.{encodeFlow, viewFlow, encode, view, Sound}
+use Rattle.order.specs.Places.{endPlace, nowhere, joiningPlace, firstPlace, leavingPlace}
 use Rattle.order.specs.Premises.{RoundHeld, held, numbersOf, roundOf, encodeRound, viewRound, FlowReady, RoundReady, HasFirst, MayServe, MayBegin, MayVisit, VisitHeld, encodeVisit, heldVisit, OfferHeld, withLength, heldOffer, openedParts, offeredParts}
-use Rattle.order.specs.Promised.{answeredAs, firstPlace, nextPlace, departedAs, NewGives, OpenGives, OfferGives, DepartGives}
+use Rattle.order.specs.Promised.{answeredAs, offeredAs, departedAs, NewGives, OpenGives, OfferGives, DepartGives}
 use Rattle.order.specs.declared.Answered.{Answered}
 use Rattle.order.specs.declared.Offered.{Offered}
 use Rattle.order.specs.declared.Opened.{Opened}
 use Rattle.order.specs.declared.Departed.{Departed}
 use Rattle.order.specs.declared.FlowCell.{FlowCell}
 use Rattle.order.specs.declared.Place.{Place}
+use Rattle.order.specs.declared.Placed.{Placed}
 use Rattle.order.specs.declared.RoundCell.{RoundCell}
 use Rattle.order.specs.declared.State.{State}
 use Rattle.order.specs.declared.Visited.{Visited}
@@ -61,9 +62,9 @@ module _ {c : State} (S : Sound c) where
   unfolding answeredAs
   open-seen {f} {weight} g = seen-as (opened-keeps (view c) f weight (S .rules)) (ap (λ (a : Answered). a .state) (g .outcome))
 
-  pub offer-seen : {f size : ℕ} {r : Answered} → OfferGives c f size r → view (r .state) ≡ offered (view c) f size .state
-  unfolding answeredAs
-  offer-seen {f} {size} g = seen-as (offered-keeps (view c) f size (S .rules)) (ap (λ (a : Answered). a .state) (g .outcome))
+  pub offer-seen : {f size : ℕ} {r : Placed} → OfferGives c f size r → view (r .state) ≡ offered (view c) f size .state
+  unfolding offeredAs
+  offer-seen {f} {size} g = seen-as (offered-keeps (view c) f size (S .rules)) (ap (λ (a : Placed). a .state) (g .outcome))
 
   pub depart-seen : {r : Departed} → DepartGives c r → view (r .state) ≡ departed (view c) .state
   unfolding departedAs
@@ -189,7 +190,7 @@ module _ (c : State) (S : Sound c) where
           at-head = λ t d. head-ready (rw (e ∙ ap (λ (u : Serving). whoseTurn u (view c .round .line)) t) (head-facts (view c) (S .rules) t (omega (arith, length-is (roundOf c) round-form)))) d;
         }
 
-    place-seen : firstPlace at (viewFlow (getD (c .flows) at noCell)) ≡ nextPlace (view c)
+    place-seen : firstPlace at (viewFlow (getD (c .flows) at noCell)) ≡ leavingPlace (view c)
     unfolding view viewRound
     place-seen =
         ap (firstPlace at) (cell-seen at at-in-reach) ∙ ap (λ (k : ℕ). firstPlace k (flowAt (view c) k)) e
@@ -253,14 +254,15 @@ module _ (c : State) (S : Sound c) where
             | no b ↦ absurd (omega (arith, refuses looked-at (omega arith)))
           ]
 
-      same-effect : ifZero (ρ looked-at) (put (view c) f (flow looked-at) (round looked-at)) (view c)
-          ≡ ifZero (ρ (flowAt (view c) f)) (put (view c) f (flow (flowAt (view c) f)) (round (flowAt (view c) f))) (view c)
-      same-effect =
+      -- What follows from the flow where nothing refuses, and otherwise does not depend on it.
+      same-choice : {A : Type 0} (made : Flow → A) (kept : A)
+          → ifZero (ρ looked-at) (made looked-at) kept ≡ ifZero (ρ (flowAt (view c) f)) (made (flowAt (view c) f)) kept
+      same-choice made kept =
           elim (decLt f flowLimit) [
-            | yes b ↦ ap (λ (k : ℕ). ifZero (ρ (flowAt (view c) k)) (put (view c) f (flow (flowAt (view c) k)) (round (flowAt (view c) k))) (view c)) (place-is b)
+            | yes b ↦ ap (λ (k : ℕ). ifZero (ρ (flowAt (view c) k)) (made (flowAt (view c) k)) kept) (place-is b)
             | no b ↦
-                positive-chosen (ρ looked-at) (put (view c) f (flow looked-at) (round looked-at)) (view c) (λ z. omega (arith, refuses looked-at (omega arith)))
-                ∙ sym (positive-chosen (ρ (flowAt (view c) f)) (put (view c) f (flow (flowAt (view c) f)) (round (flowAt (view c) f))) (view c) (λ z. omega (arith, refuses (flowAt (view c) f) (omega arith))))
+                positive-chosen (ρ looked-at) (made looked-at) kept (λ z. omega (arith, refuses looked-at (omega arith)))
+                ∙ sym (positive-chosen (ρ (flowAt (view c) f)) (made (flowAt (view c) f)) kept (λ z. omega (arith, refuses (flowAt (view c) f) (omega arith))))
           ]
 
       same-number : ρ looked-at ≡ ρ (flowAt (view c) f)
@@ -280,7 +282,7 @@ module _ (c : State) (S : Sound c) where
             ∙ ap encode
             (ap (λ (y : Flow). put (view c) at (ifZero (ρ y) (flow y) y) (ifZero (ρ y) (round y) (view c .round))) i
             ∙ put-unless (ρ looked-at) (flow looked-at) (round looked-at) effect-here
-            ∙ same-effect)
+            ∙ same-choice (λ y. put (view c) f (flow y) (round y)) (view c))
 
         asked-answer : answer
             ≡ unlessRefused (ρ (flowAt (view c) f)) (view c) (put (view c) f (flow (flowAt (view c) f)) (round (flowAt (view c) f))) .reply
@@ -326,11 +328,11 @@ module _ (c : State) (S : Sound c) where
     may-offer-to = (round-of-sound, (cell-ready at place-in-reach, room-in-line))
 
     pub offered-gives : (size : ℕ) (o : Offered) (line : List ℕ) → heldOffer line (c .round) o ≡ offeredParts (roundOf c) (getD (c .flows) at noCell) f size
-        → OfferGives c f size (record { state = record { flows = set (c .flows) at (o .flow); line = line; round = withLength (c .round) (o .length) }; answer = o .answer })
-    unfolding offeredParts view viewRound offered answeredAs
+        → OfferGives c f size (record { state = record { flows = set (c .flows) at (o .flow); line = line; round = withLength (c .round) (o .length) }; answer = o .answer; into = o .into })
+    unfolding offeredParts view viewRound offered answeredAs offeredAs
     offered-gives size o line g =
         record {
-          outcome = outcome-here;
+          outcome = λ i. record { state = outcome-here i .state; answer = outcome-here i .answer; into = place-here i };
           sound = subst (λ (r : Answered). Sound (r .state)) (sym outcome-here) (sound-of (offered (view c) f size .state) (offered-keeps (view c) f size (S .rules)));
         }
       where
@@ -343,6 +345,13 @@ module _ (c : State) (S : Sound c) where
             asked-outcome (offerRefusal f size) (λ y h. no-such-flow _ h) (λ y. packetJoined y size) (λ y. flowLined (view c .round) f y)
             (o .flow) line (withLength (c .round) (o .length)) (o .answer) x (cell-seen at place-in-reach)
             (ap (λ (k : OfferHeld). k .flow) g) (ap (λ (k : OfferHeld). k .round) g) (ap (λ (k : OfferHeld). k .answer) g)
+
+        place-here : o .into ≡ joiningPlace (view c) f size
+        place-here =
+            ap (λ (k : OfferHeld). k .into) g
+            ∙ ap (λ (y : Flow). ifZero (offerRefusal f size y) (endPlace f y size) nowhere) (cell-seen at place-in-reach)
+            ∙ same-choice (offerRefusal f size) (λ y h. no-such-flow _ h) (λ y. packetJoined y size) (λ y. flowLined (view c .round) f y)
+            (λ y. endPlace f y size) nowhere
 
 pub new-gives : NewGives (encode newScheduler)
 new-gives = record { outcome = refl; sound = sound-of newScheduler new-keeps }

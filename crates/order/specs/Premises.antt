@@ -14,9 +14,11 @@ use Rattle.err.specs.declared.Reply.{Reply}
 use Rattle.err.specs.declared.Serving.{Serving}
 use Rattle.err.specs.declared.Serving.the-variants.{NoTurn, Turn}
 use Rattle.order.specs.Encoding.{cells, lineRoom, encodeFlow, viewFlow}
+use Rattle.order.specs.Places.{endPlace, nowhere}
 use Rattle.order.specs.declared.FlowCell.{FlowCell}
 use Rattle.order.specs.declared.Offered.{Offered}
 use Rattle.order.specs.declared.Opened.{Opened}
+use Rattle.order.specs.declared.Place.{Place}
 use Rattle.order.specs.declared.RoundCell.{RoundCell}
 use Rattle.order.specs.declared.State.{State}
 use Rattle.order.specs.declared.Visited.{Visited}
@@ -136,12 +138,13 @@ pub record OfferHeld : Type 0 where
   pub round : RoundHeld
   pub flow : FlowCell
   pub answer : Answer
+  pub into : Place
 
 abbrev pub withLength : RoundCell → ℕ → RoundCell
 withLength r n = record { length = n; visits = r .visits; mark = r .mark; running = r .running; turn = r .turn }
 
 abbrev pub heldOffer : List ℕ → RoundCell → Offered → OfferHeld
-heldOffer line r o = record { round = held line (withLength r (o .length)); flow = o .flow; answer = o .answer }
+heldOffer line r o = record { round = held line (withLength r (o .length)); flow = o .flow; answer = o .answer; into = o .into }
 
 unfoldable pub offeredParts : RoundHeld → FlowCell → ℕ → ℕ → OfferHeld
 offeredParts r x f size =
@@ -149,4 +152,5 @@ offeredParts r x f size =
       round = encodeRound (ifZero (offerRefusal f size (viewFlow x)) (flowLined (viewRound r) f (viewFlow x)) (viewRound r));
       flow = encodeFlow (ifZero (offerRefusal f size (viewFlow x)) (packetJoined (viewFlow x) size) (viewFlow x));
       answer = answerOf (offerRefusal f size (viewFlow x));
+      into = ifZero (offerRefusal f size (viewFlow x)) (endPlace f (viewFlow x) size) nowhere;
     }

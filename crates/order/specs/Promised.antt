@@ -3,31 +3,26 @@
 use Prim.Native.Nat.{ℕ}
 use mathlib.Core.Path.{_≡_}
 use mathlib.Core.List.{List}
-use Rattle.err.specs.Model.{Flow, Scheduler, flowAt, newScheduler}
-use Rattle.err.specs.Steps.{firstSize, whose}
+use Rattle.err.specs.Model.{Scheduler, newScheduler}
 use Rattle.err.specs.Calls.{Outcome, Burst, opened, offered, departed, burst}
 use Rattle.err.specs.declared.Answer.{Answer}
 use Rattle.order.specs.Encoding.{encode, view, Sound}
+use Rattle.order.specs.Places.{joiningPlace, leavingPlace}
 use Rattle.order.specs.declared.State.{State}
 use Rattle.order.specs.declared.Answered.{Answered}
 use Rattle.order.specs.declared.Departed.{Departed}
-use Rattle.order.specs.declared.Place.{Place}
+use Rattle.order.specs.declared.Placed.{Placed}
 use Rattle.order.specs.declared.Counted.{Counted}
 
 -- An outcome of the model, as code gives it.
 unfoldable pub answeredAs : Outcome Answer → Answered
 answeredAs o = record { state = encode (o .state); answer = o .reply }
 
--- Where the first packet of a flow lies; of size 0 where none waits.
-abbrev pub firstPlace : ℕ → Flow → Place
-firstPlace f x = record { flow = f; slot = x .slot; size = firstSize x }
-
--- Where the packet lies that a departure takes.
-abbrev pub nextPlace : Scheduler → Place
-nextPlace s = firstPlace (whose (s .round)) (flowAt s (whose (s .round)))
+unfoldable pub offeredAs : Scheduler → ℕ → ℕ → Placed
+offeredAs s f size = record { state = encode (offered s f size .state); answer = offered s f size .reply; into = joiningPlace s f size }
 
 unfoldable pub departedAs : Scheduler → Departed
-departedAs s = record { state = encode (departed s .state); reply = departed s .reply; from = nextPlace s }
+departedAs s = record { state = encode (departed s .state); reply = departed s .reply; from = leavingPlace s }
 
 unfoldable pub countedAs : Burst → Counted
 countedAs b = record { state = encode (b .state); count = b .reply }
@@ -41,8 +36,8 @@ pub record OpenGives (s : State) (f weight : ℕ) (r : Answered) : Type 0 where
   pub outcome : r ≡ answeredAs (opened (view s) f weight)
   pub sound : Sound (r .state)
 
-pub record OfferGives (s : State) (f size : ℕ) (r : Answered) : Type 0 where
-  pub outcome : r ≡ answeredAs (offered (view s) f size)
+pub record OfferGives (s : State) (f size : ℕ) (r : Placed) : Type 0 where
+  pub outcome : r ≡ offeredAs (view s) f size
   pub sound : Sound (r .state)
 
 pub record DepartGives (s : State) (r : Departed) : Type 0 where

@@ -6,6 +6,7 @@ use Rattle.order.specs.Promised.{NewGives, OpenGives, OfferGives, Depart
 use Rattle.order.specs.declared.State.{State}
 use Rattle.order.specs.declared.Answered.{Answered}
 use Rattle.order.specs.declared.Departed.{Departed}
+use Rattle.order.specs.declared.Placed.{Placed}
 use Rattle.order.specs.declared.Counted.{Counted}
 
 pub data Run : List Call → State → Type 0 where
@@ -13,7 +14,7 @@ pub data Run : List Call → State → Type 0 where
   then-resets : {calls : List Call} {c c′ : State} → Run calls c → NewGives c′ → Run (calls ++ (resetting ∷ [])) c′
   then-opens : {calls : List Call} {c : State} {f weight : ℕ} {r : Answered} → Run calls c → OpenGives c f weight r
       → Run (calls ++ (opening f weight ∷ [])) (r .state)
-  then-offers : {calls : List Call} {c : State} {f size : ℕ} {r : Answered} → Run calls c → OfferGives c f size r
+  then-offers : {calls : List Call} {c : State} {f size : ℕ} {r : Placed} → Run calls c → OfferGives c f size r
       → Run (calls ++ (offering f size ∷ [])) (r .state)
   then-departs : {calls : List Call} {c : State} {r : Departed} → Run calls c → DepartGives c r → Run (calls ++ (departing ∷ [])) (r .state)
   then-bursts : {calls : List Call} {c : State} {n : ℕ} {before list : List ℕ} {r : Counted} → Run calls c → BurstGives c n before list r

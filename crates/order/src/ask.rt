@@ -11,6 +11,7 @@ use crate::FlowCell;
 use crate::LINE_ROOM;
 use crate::Offered;
 use crate::Opened;
+use crate::Place;
 use crate::RoundCell;
 use crate::flow;
 use crate::round;
@@ -112,16 +113,24 @@ pub fn offered(
     if refusal == 0 {
         let length = round::lined(line, r, f as u8, x);
         let queue = flow::joined(x, size);
+        let end = flow::end_place(f, x, size);
         Offered {
             length: length,
             flow: queue,
             answer: Answer::Done,
+            into: end,
         }
     } else {
+        let nowhere = Place {
+            flow: 0,
+            slot: 0,
+            size: 0,
+        };
         Offered {
             length: r.length,
             flow: x,
             answer: Answer::Refused(refusal),
+            into: nowhere,
         }
     }
 }

@@ -5,7 +5,7 @@ ghost use Rattle.err.specs.Limits.{sizeLimit, queueLimit};
 ghost use Rattle.err.specs.Steps.{packetJoined, surplusCleared, firstSize, firstLeft, excessKept};
 ghost use Rattle.order.specs.Encoding.{viewFlow, encodeFlow};
 ghost use Rattle.order.specs.Premises.{FlowReady, HasFirst, HasRoom};
-ghost use Rattle.order.specs.Promised.{firstPlace};
+ghost use Rattle.order.specs.Places.{firstPlace, endPlace};
 use crate::FlowCell;
 use crate::Place;
 use err::QUEUE_LIMIT;
@@ -48,6 +48,19 @@ pub fn joined(x: FlowCell, size: usize) -> FlowCell
     }
 }
 
+// Step 1: where a packet of this size lies once it has joined the queue of flow f.
+pub fn end_place(f: usize, x: FlowCell, size: usize) -> Place
+    requires { ⌜ FlowReady x ⌝ }
+    ensures { λ r. ⌜ r ≡ endPlace f (viewFlow x) size ⌝ }
+{
+    let slot = (x.slot + x.waiting) % QUEUE_LIMIT;
+    Place {
+        flow: f,
+        slot: slot as usize,
+        size: size,
+    }
+}
+
 // Step 2: the surplus becomes 0.
 pub fn cleared(x: FlowCell) -> FlowCell
     requires { ⌜ FlowReady x ⌝ }
@@ -69,7 +82,7 @@ pub fn first_size(x: FlowCell) -> u16
     (x.sizes % BASE) as u16 + 1
 }
 
-// Where the first packet of flow f lies.
+// Step 3: where the first packet of flow f lies.
 pub fn first_place(f: usize, x: FlowCell) -> Place
     ensures { λ r. ⌜ (FlowReady x → r ≡ firstPlace f (viewFlow x)) ⌝ }
 {

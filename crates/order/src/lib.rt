@@ -15,7 +15,7 @@ mod round;
 mod turn;
 
 // The line has one cell more than there are flows, always 0, so that taking the head out is one move of whole words.
-pub const LINE_ROOM: usize = FLOW_LIMIT + 1;
+const LINE_ROOM: usize = FLOW_LIMIT + 1;
 
 // One flow: the sizes of its waiting packets, each less one so that 256 fits a byte, are the digits of one number in base 256, the first packet's lowest.
 pub struct FlowCell {
@@ -35,11 +35,19 @@ pub struct RoundCell {
     pub turn: Serving,
 }
 
-// The scheduler's state, which only the calls make. The flow numbers of the line lie in the first cells; of a flow the store layer reads its slot.
+// The scheduler's state, which only the calls make. The flow numbers of the line lie in the first cells. Its cells' types are public because states
+// lie in other crates' structs; no call takes or gives a cell.
 pub struct State {
-    pub flows: [FlowCell; FLOW_LIMIT],
+    flows: [FlowCell; FLOW_LIMIT],
     line: [u8; LINE_ROOM],
     round: RoundCell,
+}
+
+// A packet's flow, its slot there and its size; of size 0 where there is no packet.
+pub struct Place {
+    pub flow: usize,
+    pub slot: usize,
+    pub size: usize,
 }
 
 // What a departure call makes of the round's numbers and of the flow whose turn it is, with its reply.
@@ -55,11 +63,12 @@ struct Opened {
     pub answer: Answer,
 }
 
-// What offer makes of the line's length and of the flow that it concerns, with its answer.
+// What offer makes of the line's length and of the flow that it concerns, with its answer and the packet's place.
 struct Offered {
     pub length: u8,
     pub flow: FlowCell,
     pub answer: Answer,
+    pub into: Place,
 }
 
 // The replies, each with the state handed back beside it.
@@ -68,18 +77,17 @@ pub struct Answered {
     pub answer: Answer,
 }
 
-// A departure also tells where the packet lay, for the layer that has its bytes.
+// Offer and departure also tell where the packet lies or lay, for the layer that has its bytes.
+pub struct Placed {
+    pub state: State,
+    pub answer: Answer,
+    pub into: Place,
+}
+
 pub struct Departed {
     pub state: State,
     pub reply: Reply,
     pub from: Place,
-}
-
-// A packet's flow, its slot there and its size; of size 0 where there is none.
-pub struct Place {
-    pub flow: usize,
-    pub slot: usize,
-    pub size: usize,
 }
 
 pub struct Counted {
@@ -134,7 +142,7 @@ impl State {
         }
     }
 
-    pub fn offer(mut self, f: usize, size: usize) -> Answered
+    pub fn offer(mut self, f: usize, size: usize) -> Placed
         requires { ⌜ Sound self ⌝ }
         ensures { λ r. ⌜ OfferGives self f size r ⌝ }
     {
@@ -147,9 +155,11 @@ impl State {
         let length = told.length;
         self.round.length = length;
         let answer = told.answer;
-        Answered {
+        let into = told.into;
+        Placed {
             state: self,
             answer: answer,
+            into: into,
         }
     }
 

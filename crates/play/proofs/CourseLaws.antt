@@ -15,9 +15,10 @@ use Rattle.err.proofs.Reply.{the-type}
 use Rattle.lines.specs.declared.Event.{Event}
 use Rattle.lines.specs.declared.Event.the-variants.{Flow, Arrive, Send}
 use Rattle.order.specs.Encoding.{view, Sound}
-use Rattle.order.specs.Promised.{answeredAs, departedAs, OpenGives, OfferGives, DepartGives}
+use Rattle.order.specs.Promised.{answeredAs, offeredAs, departedAs, OpenGives, OfferGives, DepartGives}
 use Rattle.order.specs.declared.Answered.{Answered}
 use Rattle.order.specs.declared.Departed.{Departed}
+use Rattle.order.specs.declared.Placed.{Placed}
 use Rattle.order.specs.declared.State.{State}
 use Rattle.order.proofs.StateLaws.{open-seen, offer-seen, depart-seen}
 use Rattle.play.specs.Course.{replayOf, asked, Goes}
@@ -38,31 +39,34 @@ as-event : (c : Course) (line : ℕ) {before after : List ℕ} {next : Course} (
     → Goes c before (happening (replayOf c) line known) next after → Goes c before (happening (replayOf c) line event) next after
 as-event c line {before} {after} {next} event known e g = subst (λ (x : Event). Goes c before (happening (replayOf c) line x) next after) (sym e) g
 
-module _ (c : Course) (S : Sound (c .state)) (line : ℕ) {before after : List ℕ} {past : ℕ} (r : Answered)
-    (e : page after past ≡ put (page before (c .past)) (textOf (refusal (r .answer) line))) where
-  answer-goes : (o : Outcome Answer) → r .answer ≡ o .reply → view (r .state) ≡ o .state → Sound (r .state)
-      → Goes c before (answered (replayOf c) line o) (record { state = r .state; sent = c .sent; past = past }) after
+-- The page once an answer is told.
+abbrev Tells : Course → ℕ → List ℕ → List ℕ → ℕ → Answer → Type 0
+Tells c line before after past answer = page after past ≡ put (page before (c .past)) (textOf (refusal answer line))
+
+module _ (c : Course) (S : Sound (c .state)) (line : ℕ) {before after : List ℕ} {past : ℕ} where
+  answer-goes : (s : State) (answer : Answer) → Tells c line before after past answer → (o : Outcome Answer) → answer ≡ o .reply → view s ≡ o .state → Sound s
+      → Goes c before (answered (replayOf c) line o) (record { state = s; sent = c .sent; past = past }) after
   unfolding answered replayOf
-  answer-goes o a v sound =
+  answer-goes s answer e o a v sound =
       record {
         told = e ∙ ap (λ (x : Answer). put (page before (c .past)) (textOf (refusal x line))) a;
         arrives = ap (λ (m : Scheduler). replay m (c .sent)) v;
         sound = sound;
       }
 
-  pub open-goes : (event : Event) (f weight : ℕ) → event ≡ Flow f weight → OpenGives (c .state) f weight r
+  pub open-goes : (r : Answered) → Tells c line before after past (r .answer) → (event : Event) (f weight : ℕ) → event ≡ Flow f weight → OpenGives (c .state) f weight r
       → Goes c before (happening (replayOf c) line event) (record { state = r .state; sent = c .sent; past = past }) after
   unfolding happening replayOf answeredAs
-  open-goes event f weight i g =
+  open-goes r e event f weight i g =
       as-event c line event (Flow f weight) i
-      (answer-goes (opened (view (c .state)) f weight) (ap (λ (a : Answered). a .answer) (g .outcome)) (open-seen S g) (g .sound))
+      (answer-goes (r .state) (r .answer) e (opened (view (c .state)) f weight) (ap (λ (a : Answered). a .answer) (g .outcome)) (open-seen S g) (g .sound))
 
-  pub offer-goes : (event : Event) (f size : ℕ) → event ≡ Arrive f size → OfferGives (c .state) f size r
+  pub offer-goes : (r : Placed) → Tells c line before after past (r .answer) → (event : Event) (f size : ℕ) → event ≡ Arrive f size → OfferGives (c .state) f size r
       → Goes c before (happening (replayOf c) line event) (record { state = r .state; sent = c .sent; past = past }) after
-  unfolding happening replayOf answeredAs
-  offer-goes event f size i g =
+  unfolding happening replayOf offeredAs
+  offer-goes r e event f size i g =
       as-event c line event (Arrive f size) i
-      (answer-goes (offered (view (c .state)) f size) (ap (λ (a : Answered). a .answer) (g .outcome)) (offer-seen S g) (g .sound))
+      (answer-goes (r .state) (r .answer) e (offered (view (c .state)) f size) (ap (λ (a : Placed). a .answer) (g .outcome)) (offer-seen S g) (g .sound))
 
 -- ---- departures
 

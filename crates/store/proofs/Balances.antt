@@ -9,7 +9,7 @@ use lib.Seq.{take-at}
 use Rattle.err.specs.Limits.{flowLimit, queueLimit, sizeLimit}
 use Rattle.err.specs.Choose.{ifZero}
 use Rattle.err.specs.Model.{Flow, Scheduler, flowAt, newScheduler}
-use Rattle.err.specs.Steps.{packetJoined, flowLined}
+use Rattle.err.specs.Steps.{packetJoined, flowLined, nextSlotOf}
 use Rattle.err.specs.Calls.{put, openFlow, opened, openRefusal, offered, offerRefusal, departed, unlessRefused}
 use Rattle.err.specs.Replies.{sentBy}
 use Rattle.err.specs.Rules.{Rules}
@@ -18,7 +18,7 @@ use Rattle.err.specs.declared.Reply.the-variants.{Departure, Idle, Refused}
 use Rattle.err.specs.declared.Sent.{Sent}
 use Rattle.err.proofs.Flows.{at-others, first-in-range, here-now, beyond-closed}
 use Rattle.err.proofs.Refusals.{MayOpen, may-open, MayOffer, may-offer}
-use Rattle.store.specs.Slots.{storeLength, nextSlotOf, written, held}
+use Rattle.store.specs.Slots.{storeLength, written, held}
 use Rattle.store.specs.Calls.{AfterOffer, AfterDeparture, storeOffer, storeOfferRefusal, storeDepart, storeDepartRefusal}
 use Rattle.store.specs.Chain.{offering, departing, lent, back, Packet, stateAfter, storeAfter, accepting, leaving, putOut, taken, bytesOf, heldFrom, waitingBytes}
 use Rattle.store.proofs.SlotLaws.{held-length, written-length}

@@ -10,20 +10,17 @@ use lib.Dec.{ltb}
 use borrow.Author.Tests.{eq-eqb, ne-eqb, lt-ltb, le-ltb}
 use Rattle.err.specs.Choose.{ifZero}
 use Rattle.err.specs.Model.{Scheduler, flowAt}
+use Rattle.err.specs.Steps.{nextSlotOf}
 use Rattle.err.specs.Calls.{offerRefusal, offered, departed, answerOf, unlessRefused}
-use Rattle.err.specs.declared.Answer.the-variants.{Done, Refused as AnswerRefused}
+use Rattle.err.specs.declared.Answer.the-variants.{Refused as AnswerRefused}
 use Rattle.err.specs.declared.Reply.{Reply}
 use Rattle.err.specs.declared.Reply.the-variants.{Departure, Idle, Refused}
 use Rattle.err.specs.declared.Sent.{Sent}
 use Rattle.err.proofs.Choosing.{zero-chosen, positive-chosen, chosen-twice}
-use Rattle.store.specs.Slots.{storeLength, outLimit, nextSlotOf, written, held}
+use Rattle.store.specs.Slots.{storeLength, outLimit, written, held}
 use Rattle.store.specs.Calls.{storeOfferRefusal, storeOffer, storeDepartRefusal, storeDepart, sentOut}
 
--- An answer tells whether the call was refused, and with which number.
-pub done-number : (n : ℕ) → answerOf n ≡ Done → n ≡ 0
-done-number zero e = refl
-done-number (suc n) e = let z : _≡_ {A = ℕ} 0 1 = cc in absurd (omega arith)
-
+-- A refusal has a number that is not 0.
 pub refused-number : (n k : ℕ) → answerOf n ≡ AnswerRefused k → n ≡ 0 → ⊥
 refused-number zero k e h = let z : _≡_ {A = ℕ} 0 1 = cc in absurd (omega arith)
 refused-number (suc n) k e h = absurd (omega arith)
@@ -61,6 +58,12 @@ module _ (s : Scheduler) (f : ℕ) (packet store : List ℕ) where
   pub offer-stores : storeOfferRefusal s f packet store ≡ 0 → storeOffer s f packet store .store ≡ written store f (nextSlotOf (flowAt s f)) packet
   unfolding storeOffer
   offer-stores e = zero-chosen (storeOfferRefusal s f packet store) (written store f (nextSlotOf (flowAt s f)) packet) store e
+
+  pub offer-writes : length store ≡ storeLength
+      → storeOffer s f packet store .store
+      ≡ ifZero (offerRefusal f (length packet) (flowAt s f)) (written store f (nextSlotOf (flowAt s f)) packet) store
+  unfolding storeOffer
+  offer-writes e = ap (λ (n : ℕ). ifZero n (written store f (nextSlotOf (flowAt s f)) packet) store) (offer-right-store e)
 
   pub offer-number : storeOffer s f packet store .answer ≡ answerOf (storeOfferRefusal s f packet store)
   unfolding storeOffer

@@ -7,10 +7,8 @@ use lib.ListN.{length}
 use Rattle.err.specs.Choose.{ifZero}
 use Rattle.err.specs.Calls.{answerOf}
 use Rattle.err.specs.Model.{Scheduler}
-use Rattle.err.specs.declared.Answer.{Answer}
-use Rattle.err.specs.declared.Reply.{Reply}
 use Rattle.store.specs.Slots.{storeLength}
-use Rattle.store.specs.Calls.{storeOffer, storeOfferRefusal, storeDepart}
+use Rattle.store.specs.Calls.{storeOffer, storeOfferRefusal}
 use Rattle.store.specs.Chain.{StoreCall, resetting, opening, offering, departing, lent, back, Packet, putOut, taken, History, start, next, chain, stateAfter, storeAfter, accepting, leaving, sinceReset, bytesOf, waitingBytes}
 use Rattle.store.specs.Promised.{schedulerOf, SoundSite, answeredAs, departedAs, OfferGives, DepartGives}
 use Rattle.store.specs.Runs.{takenIn, Told, nothing, Run, begins, then-resets, then-opens, then-offers, then-departs}

@@ -1,74 +1,52 @@
 -- From what the order layer's calls give to what a site's calls promise.
-use Prim.Native.Nat.{ℕ, suc, _+_, _-_, _%_, _≤_, _<_}
-use mathlib.Core.Path.{_≡_, sym, ap, ap₂, _∙_, subst}
-use mathlib.Core.List.{List, [], _∷_, _++_}
+use Prim.Native.Nat.{ℕ, zero, suc, _≤_, _<_}
+use mathlib.Core.Path.{_≡_, refl, sym, ap, ap₂, _∙_, subst}
+use mathlib.Core.List.{List, _++_}
 use native.Mathlib.Omega.{arith}
-use lib.ListN.{length, getD, drop, length-append}
+use lib.ListN.{length, getD, take, drop}
+use lib.Seq.{take-all, length-take-le}
 use Rattle.err.specs.Limits.{flowLimit, queueLimit, sizeLimit}
-use Rattle.err.specs.Model.{Flow, Scheduler, flowAt}
+use Rattle.err.specs.Model.{Scheduler, flowAt}
 use Rattle.err.specs.Choose.{ifZero}
-use Rattle.err.specs.Steps.{packetJoined, flowLined, whose}
-use Rattle.err.specs.Calls.{put, offerRefusal, offered, unlessRefused, departed, answerOf}
+use Rattle.err.specs.Steps.{nextSlotOf, whose}
+use Rattle.err.specs.Calls.{offerRefusal, departed, answerOf}
 use Rattle.err.specs.Rules.{Rules}
-use Rattle.err.specs.declared.Answer.the-variants.{Done, Refused as AnswerRefused}
+use Rattle.err.specs.declared.Answer.the-variants.{Refused as AnswerRefused}
 use Rattle.err.specs.declared.Reply.{Reply}
 use Rattle.err.specs.declared.Reply.the-variants.{Refused}
-use Rattle.err.proofs.Flows.{first-small, here-now}
+use Rattle.err.proofs.Departing.{Leaves, departed-leaves, SendsOrStays, sends, stays, sends-or-stays}
+use Rattle.err.proofs.Flows.{first-small}
 use Rattle.err.proofs.Refusals.{MayOffer, may-offer}
-use Rattle.order.specs.Encoding.{viewFlow}
-use Rattle.order.specs.Premises.{FlowReady}
+use Rattle.err.proofs.Standing.{nobody-waits, whose-in-reach}
+use Rattle.order.specs.Places.{endPlace, nowhere, firstPlace, leavingPlace}
 use Rattle.order.specs.Promised as order
 use Rattle.order.specs.declared.Answered.{Answered}
 use Rattle.order.specs.declared.Departed.{Departed}
-use Rattle.order.specs.declared.FlowCell.{FlowCell}
 use Rattle.order.specs.declared.Place.{Place}
+use Rattle.order.specs.declared.Placed.{Placed}
 use Rattle.order.specs.declared.State.{State}
-use Rattle.order.proofs.Encoded.{waiting-is}
-use Rattle.order.proofs.StateLaws.{noCell, cell-seen, offer-seen}
-use Rattle.store.specs.Slots.{storeLength, outLimit, nextSlotOf, written, held}
-use Rattle.store.specs.AfterCall.{slotBefore}
+use Rattle.store.specs.Slots.{storeLength, outLimit, slotStart, written, held}
 use Rattle.store.specs.Calls.{storeOffer, storeOfferRefusal, storeDepart, storeDepartRefusal, sentOut}
 use Rattle.store.specs.Promised.{schedulerOf, SoundSite, siteOf, answeredAs, departedAs, NewGives, OpenGives, OfferGives, DepartGives}
 use Rattle.store.specs.declared.Site.{Site}
-use Rattle.store.proofs.CallLaws.{done-number, refused-number, offer-wrong-store, offer-right-store, offer-state, offer-answer, offer-refused, offer-stores, offer-number, depart-wrong-store, depart-short-out, depart-may, depart-refused, depart-made, sent-departure}
-use Rattle.err.proofs.Departing.{Leaves, departed-leaves, SendsOrStays, sends, stays, sends-or-stays}
-use Rattle.err.proofs.Standing.{nobody-waits, whose-in-reach}
-
--- A slot before another is one of the flow's slots.
-pub before-in-reach : (k j : ℕ) → k ≡ slotBefore j → k < queueLimit
-before-in-reach k j e = omega arith
-
--- The slot that is read off a flow's cell.
-module _ (x : FlowCell) (h : FlowReady x) where
-  pub slots-fit : (x .slot < queueLimit) × (x .waiting ≤ queueLimit)
-  unfolding viewFlow
-  slots-fit = (h .rules .slot-in-range, omega (arith, waiting-is x (h .form), h .rules .waiting-in-range))
-
-  pub last-law : (x .slot + x .waiting + (queueLimit - 1)) % queueLimit ≡ slotBefore (nextSlotOf (viewFlow x))
-  unfolding viewFlow
-  last-law =
-      ap (λ (n : ℕ). (x .slot + n + (queueLimit - 1)) % queueLimit) (waiting-is x (h .form))
-      ∙ around (x .slot + length (viewFlow x .queue))
-    where
-      around : (n : ℕ) → (n + (queueLimit - 1)) % queueLimit ≡ (n % queueLimit + (queueLimit - 1)) % queueLimit
-      around n = omega arith
+use Rattle.store.proofs.CallLaws.{offer-wrong-store, offer-state, offer-answer, offer-refused, offer-writes, offer-number, depart-wrong-store, depart-short-out, depart-may, depart-refused, depart-made, sent-departure}
 
 -- The outgoing buffer with the bytes that lie at a place put at its start.
 abbrev pub fetched : Place → List ℕ → List ℕ → List ℕ
 fetched p store out = held store (p .flow) (p .slot) (p .size) ++ drop (p .size) out
 
 -- A departure takes its bytes from the place that the order layer tells; of size 0, and so none, where nothing departs.
-sent-out-is-fetched : (s : Scheduler) → Rules s → (store out : List ℕ) → sentOut (departed s .reply) s store out ≡ fetched (order.nextPlace s) store out
+sent-out-is-fetched : (s : Scheduler) → Rules s → (store out : List ℕ) → sentOut (departed s .reply) s store out ≡ fetched (leavingPlace s) store out
 unfolding sentOut held
 sent-out-is-fetched s R store out = by (sends-or-stays s)
   where
-    by : SendsOrStays s → sentOut (departed s .reply) s store out ≡ fetched (order.nextPlace s) store out
+    by : SendsOrStays s → sentOut (departed s .reply) s store out ≡ fetched (leavingPlace s) store out
     by (sends d i) =
         let L : Leaves s d (departed s .state) = departed-leaves s R d i in
         sent-departure s store out (departed s .reply) d i
         ∙ ap (λ (n : ℕ). fetched (record { flow = d .flow; slot = flowAt s (d .flow) .slot; size = n }) store out)
         (sym (ap (λ (q : List ℕ). getD q 0 0) (L .first-in-queue)))
-        ∙ ap (λ (k : ℕ). fetched (order.firstPlace k (flowAt s k)) store out) (L .had-the-turn)
+        ∙ ap (λ (k : ℕ). fetched (firstPlace k (flowAt s k)) store out) (L .had-the-turn)
     by (stays i same t l) =
         ap (λ (r : Reply). sentOut r s store out) i
         ∙ ap (λ (q : List ℕ). fetched (record { flow = whose (s .round); slot = flowAt s (whose (s .round)) .slot; size = getD q 0 0 }) store out)
@@ -114,67 +92,59 @@ module _ (site : Site) (S : SoundSite site) where
           sound = S;
         }
 
-    module _ (all : length store ≡ storeLength) (a : Answered) (g : order.OfferGives (site .order) f (length packet) a) where
-      answer-is : a .answer ≡ answerOf (offerRefusal f (length packet) (flowAt s f))
-      unfolding schedulerOf order.answeredAs offered unlessRefused
-      answer-is = ap (λ (k : Answered). k .answer) (g .outcome)
+    -- The order layer's number decides, and with it where the packet lies.
+    abbrev number : ℕ
+    number = offerRefusal f (length packet) (flowAt s f)
 
+    abbrev place : ℕ → Place
+    place n = ifZero n (endPlace f (flowAt s f) (length packet)) nowhere
+
+    abbrev pub Fits : Place → Type 0
+    Fits p = ((p .flow < flowLimit) × (p .slot < queueLimit) × (p .size ≤ sizeLimit)) × (p .size ≤ length packet)
+
+    place-fits : (n : ℕ) → number ≡ n → Fits (place n)
+    place-fits zero e =
+        let may : MayOffer f (length packet) (flowAt s f) = may-offer f (length packet) (flowAt s f) e in
+        ((may .flow-in-range, omega arith, may .size-small), omega arith)
+    place-fits (suc n) e = ((omega arith, omega arith, omega arith), omega arith)
+
+    written-there : (n : ℕ) → written store (place n .flow) (place n .slot) (take (place n .size) packet)
+        ≡ ifZero n (written store f (nextSlotOf (flowAt s f)) packet) store
+    unfolding written slotStart
+    written-there zero = ap (λ (l : List ℕ). written store f (nextSlotOf (flowAt s f)) l) (take-all (length packet) packet (omega arith))
+    written-there (suc n) = refl
+
+    module _ (all : length store ≡ storeLength) (a : Placed) (g : order.OfferGives (site .order) f (length packet) a) where
       -- Where the store has its length, state and answer are what the order layer gives.
       outcome-is : record { site = record { order = a .state }; answer = a .answer }
           ≡ answeredAs (storeOffer s f packet store .state) (storeOffer s f packet store .answer)
-      unfolding answeredAs siteOf schedulerOf order.answeredAs
+      unfolding answeredAs siteOf schedulerOf order.offeredAs
       outcome-is =
-          ap (λ (k : Answered). record { site = record { order = k .state }; answer = k .answer }) (g .outcome)
+          ap (λ (k : Placed). record { site = record { order = k .state }; answer = k .answer }) (g .outcome)
           ∙ sym (ap₂ answeredAs (offer-state s f packet store all) (offer-answer s f packet store all))
 
-      pub accepted : a .answer ≡ Done → MayOffer f (length packet) (flowAt s f)
-      accepted e = may-offer f (length packet) (flowAt s f) (done-number (offerRefusal f (length packet) (flowAt s f)) (sym answer-is ∙ e))
+      into-is : a .into ≡ place number
+      unfolding schedulerOf order.offeredAs
+      into-is = ap (λ (k : Placed). k .into) (g .outcome)
 
-      pub refused-offer : (n : ℕ) → a .answer ≡ AnswerRefused n
-          → OfferGives site f packet store store (record { site = record { order = a .state }; answer = a .answer })
-      refused-offer n e =
-          record {
-            outcome = outcome-is;
-            stored =
-                sym (offer-refused s f packet store (λ z. refused-number (offerRefusal f (length packet) (flowAt s f)) n (sym answer-is ∙ e) (sym (offer-right-store s f packet store all) ∙ z)) .1);
-            sound = g .sound;
-          }
+      pub into-fits : Fits (a .into)
+      into-fits = subst Fits (sym into-is) (place-fits number refl)
 
-      -- The flow that was offered to, once it is accepted.
-      joined-is : a .answer ≡ Done → viewFlow (getD (a .state .flows) f noCell) ≡ packetJoined (flowAt s f) (length packet)
-      unfolding schedulerOf offered unlessRefused
-      joined-is e =
-          let h : f < flowLimit = accepted e .flow-in-range in
-          cell-seen (a .state) (g .sound) f h
-          ∙ ap (λ (t : Scheduler). flowAt t f) (offer-seen S g)
-          ∙ ap (λ (n : ℕ). flowAt (ifZero n (put s f (packetJoined (flowAt s f) (length packet)) (flowLined (s .round) f (flowAt s f))) s) f)
-          (done-number (offerRefusal f (length packet) (flowAt s f)) (sym answer-is ∙ e))
-          ∙ here-now s rules-of-site h (packetJoined (flowAt s f) (length packet)) (flowLined (s .round) f (flowAt s f))
+      -- As many of the packet's bytes as the place has.
+      pub bytes-there : length (take (a .into .size) packet) ≡ a .into .size
+      bytes-there = length-take-le (a .into .size) packet (into-fits .1)
 
-      slot-taken : a .answer ≡ Done → slotBefore (nextSlotOf (viewFlow (getD (a .state .flows) f noCell))) ≡ nextSlotOf (flowAt s f)
-      unfolding packetJoined
-      slot-taken e =
-          ap (λ (x : Flow). slotBefore (nextSlotOf x)) (joined-is e)
-          ∙ ap (λ (n : ℕ). slotBefore ((flowAt s f .slot + n) % queueLimit)) one-more
-          ∙ around (flowAt s f .slot) (length (flowAt s f .queue))
-        where
-          one-more : length (flowAt s f .queue ++ (length packet ∷ [])) ≡ length (flowAt s f .queue) + 1
-          one-more = omega (arith, length-append (flowAt s f .queue) (length packet ∷ []))
-
-          around : (a b : ℕ) → slotBefore ((a + (b + 1)) % queueLimit) ≡ (a + b) % queueLimit
-          around a b = omega arith
-
-      -- The packet is written in the slot that the flow's next packet was to take.
-      pub accepted-offer : a .answer ≡ Done → (k : ℕ) (after : List ℕ) → k ≡ slotBefore (nextSlotOf (viewFlow (getD (a .state .flows) f noCell)))
-          → after ≡ written store f k packet
+      -- The packet is written in the slot that the flow's next packet takes; nothing is where it is refused.
+      pub stored-there : (after : List ℕ) → after ≡ written store (a .into .flow) (a .into .slot) (take (a .into .size) packet)
           → OfferGives site f packet store after (record { site = record { order = a .state }; answer = a .answer })
-      accepted-offer e k after at w =
+      stored-there after w =
           record {
             outcome = outcome-is;
             stored =
                 w
-                ∙ ap (λ (j : ℕ). written store f j packet) (at ∙ slot-taken e)
-                ∙ sym (offer-stores s f packet store (offer-right-store s f packet store all ∙ done-number (offerRefusal f (length packet) (flowAt s f)) (sym answer-is ∙ e)));
+                ∙ ap (λ (p : Place). written store (p .flow) (p .slot) (take (p .size) packet)) into-is
+                ∙ written-there number
+                ∙ sym (offer-writes s f packet store all);
             sound = g .sound;
           }
 
@@ -199,7 +169,7 @@ module _ (site : Site) (S : SoundSite site) where
       may : storeDepartRefusal store out ≡ 0
       may = depart-may s store out all room
 
-      from-is : a .from ≡ order.nextPlace s
+      from-is : a .from ≡ leavingPlace s
       unfolding schedulerOf order.departedAs
       from-is = ap (λ (k : Departed). k .from) (g .outcome)
 

@@ -6,11 +6,12 @@ use lib.ListN.{length, drop}
 use lib.Dec.{ltb, eqb}
 use Rattle.err.specs.Choose.{ifZero}
 use Rattle.err.specs.Model.{Scheduler, flowAt}
+use Rattle.err.specs.Steps.{nextSlotOf}
 use Rattle.err.specs.Calls.{offerRefusal, offered, departed, answerOf}
 use Rattle.err.specs.declared.Answer.{Answer}
 use Rattle.err.specs.declared.Reply.{Reply}
 use Rattle.err.specs.declared.Reply.the-variants.{Departure, Idle, Refused}
-use Rattle.store.specs.Slots.{storeLength, outLimit, nextSlotOf, written, held}
+use Rattle.store.specs.Slots.{storeLength, outLimit, written, held}
 
 -- What a store offer gives: the state, the store and an answer.
 pub record AfterOffer : Type 0 where

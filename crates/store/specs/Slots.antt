@@ -1,10 +1,9 @@
 -- Where bytes lie: every packet that waits has a slot of its flow, and the bytes of the packet lie in the store from the slot's start.
 -- Only `slotStart` says where that is.
-use Prim.Native.Nat.{ℕ, _+_, _*_, _%_}
+use Prim.Native.Nat.{ℕ, _+_, _*_}
 use mathlib.Core.List.{List, _++_}
 use lib.ListN.{length, take, drop}
-use Rattle.err.specs.Limits.{sizeLimit, queueLimit}
-use Rattle.err.specs.Model.{Flow}
+use Rattle.err.specs.Limits.{sizeLimit}
 
 -- the store is exactly 65,536 bytes
 abbrev pub storeLength : ℕ
@@ -17,10 +16,6 @@ outLimit = sizeLimit
 -- Slot k of flow f begins at byte 2,048 × f + 256 × k.
 unfoldable pub slotStart : ℕ → ℕ → ℕ
 slotStart f k = 2048 * f + 256 * k
-
--- A flow's first packet since reset takes slot 0; each later one takes the next slot, the last being followed by slot 0.
-abbrev pub nextSlotOf : Flow → ℕ
-nextSlotOf x = (x .slot + length (x .queue)) % queueLimit
 
 -- The store with a packet in slot k of flow f. Only the packet's own bytes are written.
 unfoldable pub written : List ℕ → ℕ → ℕ → List ℕ → List ℕ

@@ -77,10 +77,9 @@ impl Site {
         let asked = order.offer(f, packet.len());
         let state = asked.state;
         let answer = asked.answer;
-        if let Answer::Done = answer {
-            // Nothing of the state before the call is needed, so that no second state is kept.
-            slots::write(store, f, slots::last(state.flows[f]), packet);
-        }
+        // Where the packet is refused the size is 0, and nothing is written.
+        let into = asked.into;
+        slots::write(store, into.flow, into.slot, &packet[..into.size]);
         SiteAnswered {
             site: Site { order: state },
             answer: answer,
@@ -108,7 +107,7 @@ impl Site {
         let sent = order.depart();
         let state = sent.state;
         let reply = sent.reply;
-        // Where nothing departs the size is 0, and nothing is copied; so no branch stands between the call and the site handed back, which spares a copy.
+        // Where nothing departs the size is 0, and nothing is copied.
         let from = sent.from;
         slots::read(store, from.flow, from.slot, from.size, out);
         SiteDeparted {

@@ -4,14 +4,10 @@ ghost use mathlib.Core.List.{_++_};
 ghost use Prim.Native.Nat.{_≤_, _<_};
 ghost use lib.ListN.{length, drop};
 ghost use Rattle.err.specs.Limits.{flowLimit, queueLimit, sizeLimit};
-ghost use Rattle.order.specs.Encoding.{viewFlow};
-ghost use Rattle.order.specs.Premises.{FlowReady};
-ghost use Rattle.store.specs.AfterCall.{slotBefore};
-ghost use Rattle.store.specs.Slots.{storeLength, outLimit, slotStart, nextSlotOf, written, held};
+ghost use Rattle.store.specs.Slots.{storeLength, outLimit, slotStart, written, held};
 use crate::bytes::copy_in;
 use err::QUEUE_LIMIT;
 use err::SIZE_LIMIT;
-use order::FlowCell;
 
 // The byte at which slot k of flow f begins.
 fn start(f: usize, k: usize) -> usize
@@ -19,14 +15,6 @@ fn start(f: usize, k: usize) -> usize
     ensures { λ at. ⌜ at ≡ slotStart f k ⌝ }
 {
     SIZE_LIMIT * (QUEUE_LIMIT as usize * f + k)
-}
-
-// The slot of the packet that an offer put last in the flow: the one before that which the next will take.
-pub fn last(x: FlowCell) -> usize
-    requires { ⌜ FlowReady x ⌝ }
-    ensures { λ k. ⌜ k ≡ slotBefore (nextSlotOf (viewFlow x)) ⌝ }
-{
-    ((x.slot + x.waiting + (QUEUE_LIMIT - 1)) % QUEUE_LIMIT) as usize
 }
 
 // Writes a packet in slot k of flow f.

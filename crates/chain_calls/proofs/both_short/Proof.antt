@@ -1,6 +1,5 @@
 -- One byte less than the store, and 255 bytes of the outgoing buffer, are lent.
 use lib.Dec.{lit≤}
-use borrow.Author.Needs.{needs}
 use lib.Seq.{length-front}
 use Rattle.chain_calls.proofs.Prefix.{as-many, within}
 use Rattle.chain_calls.proofs.both_short.Statement.{statement}

@@ -40,9 +40,9 @@ element-set-from-queue c =
 
 returns : tie.Need-returns
 returns c =
-    let start = c .before .before .before .before .before .before .before in
-    let place = c .before .before .before .before .before .before .place in
-    let offered = c .before .before .offered in
+    let start = c .before .before .before .before .before .before .before .before in
+    let place = c .before .before .before .before .before .before .before .place in
+    let offered = c .before .before .before .offered in
     offered-gives (start .args .t1) (start .pre) (start .args .f) (place .result) (place .ensures) (start .args .size) (offered .result)
     (offered .last .0) (offered .ensures)
 

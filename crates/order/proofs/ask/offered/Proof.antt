@@ -32,15 +32,19 @@ joined-requires c κs =
     has-room-here (start .args .x) (start .args .f) (offer-refusal .result) (start .pre .1 .0) (start .args .size) (offer-refusal .ensures)
     (if1 .taken)
 
+end-place-requires : tie.Need-end-place-requires
+end-place-requires c κs = c .before .before .before .before .before .pre .1 .0
+
 returns : tie.Need-returns
 returns c =
-    let start = c .before .before .before .before .before in
-    let offer-refusal = c .before .before .before .before .offer-refusal in
-    let if1 = c .before .before .before .if1 in
-    let lined = c .before .lined in
+    let start = c .before .before .before .before .before .before in
+    let offer-refusal = c .before .before .before .before .before .offer-refusal in
+    let if1 = c .before .before .before .before .if1 in
+    let lined = c .before .before .lined in
+    let joined = c .before .joined in
     offered-law (start .args .x) (start .args .f) (offer-refusal .result) (start .pre .1 .0) (start .args .size) (offer-refusal .ensures)
-    (held (now (start .args .line)) (start .args .r)) (held (lined .last .0) (withLength (start .args .r) (lined .result))) (c .joined .result)
-    (if1 .taken) (lined .ensures) (c .joined .ensures)
+    (held (now (start .args .line)) (start .args .r)) (held (lined .last .0) (withLength (start .args .r) (lined .result))) (joined .result)
+    (c .end-place .result) (if1 .taken) (lined .ensures) (joined .ensures) (c .end-place .ensures)
 
 returns-2 : tie.Need-returns-2
 returns-2 c =
@@ -52,4 +56,4 @@ returns-2 c =
 pub offered-spec : {M : Type 1} → statement M
 offered-spec =
     tie.close
-    (tie.spec offer-refusal-requires cast-lined lined-requires joined-requires returns returns-2)
+    (tie.spec offer-refusal-requires cast-lined lined-requires joined-requires end-place-requires returns returns-2)

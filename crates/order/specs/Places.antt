@@ -1,0 +1,26 @@
+-- Where packets lie, as offers and departures tell it: the flow, the slot there, and the size.
+use Prim.Native.Nat.{ℕ}
+use Rattle.err.specs.Choose.{ifZero}
+use Rattle.err.specs.Model.{Flow, Scheduler, flowAt}
+use Rattle.err.specs.Steps.{firstSize, nextSlotOf, whose}
+use Rattle.err.specs.Calls.{offerRefusal}
+use Rattle.order.specs.declared.Place.{Place}
+
+-- Where the packet lies that joins a flow at the end.
+abbrev pub endPlace : ℕ → Flow → ℕ → Place
+endPlace f x size = record { flow = f; slot = nextSlotOf x; size = size }
+
+abbrev pub nowhere : Place
+nowhere = record { flow = 0; slot = 0; size = 0 }
+
+-- Where a packet lies once it is accepted; nowhere where it is refused.
+abbrev pub joiningPlace : Scheduler → ℕ → ℕ → Place
+joiningPlace s f size = ifZero (offerRefusal f size (flowAt s f)) (endPlace f (flowAt s f) size) nowhere
+
+-- Where the first packet of a flow lies; of size 0 where none waits.
+abbrev pub firstPlace : ℕ → Flow → Place
+firstPlace f x = record { flow = f; slot = x .slot; size = firstSize x }
+
+-- Where the packet lies that a departure takes.
+abbrev pub leavingPlace : Scheduler → Place
+leavingPlace s = firstPlace (whose (s .round)) (flowAt s (whose (s .round)))
