@@ -1,18 +1,17 @@
 // The loop `again` of bench/plain/README.md: bursts of 100 from one full state.
+use loops::SENT;
 use loops::sums;
 use loops::words;
 
-const BURST: usize = 100;
-
 fn again(n: u64) -> u32 {
     let full = loops::filled(true);
-    let mut list = [0u8; BURST];
+    let mut list = [0u8; SENT];
     let mut check: u32 = 0;
     let mut i: u64 = 0;
     while i < n {
-        let sent = full.burst(BURST, &mut list);
+        let sent = full.burst(SENT, &mut list);
         let count = sent.count;
-        check = sums::fold_byte(sums::counted(check, count), list[BURST - 1]);
+        check = sums::fold_byte(sums::counted(check, count), list[SENT - 1]);
         i += 1;
     }
     check

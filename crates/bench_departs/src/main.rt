@@ -1,4 +1,5 @@
 // The loop `departs` of bench/plain/README.md: 100 departures from one full state, one call each.
+use loops::SENT;
 use loops::sums;
 use loops::words;
 
@@ -8,8 +9,8 @@ fn departs(n: u64) -> u32 {
     let mut i: u64 = 0;
     while i < n {
         let mut s = full;
-        let mut made: u64 = 0;
-        while made < 100 {
+        let mut made = 0;
+        while made < SENT {
             let left = s.depart();
             s = left.state;
             let reply = left.reply;

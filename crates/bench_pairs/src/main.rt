@@ -47,7 +47,7 @@ fn pair(s: State, f: usize, size: usize, check: u32) -> Paired
 }
 
 fn pairs(flows: usize, n: u64) -> u32
-    requires { ⌜ (0 < flows) × (flows ≤ 32) ⌝ }
+    requires { ⌜ (0 < flows) × (flows ≤ flowLimit) ⌝ }
 {
     let mut s = begun(flows);
     let mut check: u32 = 0;

@@ -3,6 +3,8 @@ ghost use Rattle.store.specs.Promised.{SoundSite};
 use err::FLOW_LIMIT;
 use err::QUEUE_LIMIT;
 use err::SIZE_LIMIT;
+use loops::FULL;
+use loops::SENT;
 use loops::sums;
 use loops::words;
 use store::Site;
@@ -26,10 +28,10 @@ fn filled(store: &mut [u8]) -> Site
     ensures { λ s. ⌜ SoundSite s ⌝ }
 {
     let mut site = opened();
-    let mut k = 0;
-    while k < 256 {
+    let mut k: u64 = 0;
+    while k < FULL {
         let packet = [(k % 256) as u8; SIZE_LIMIT];
-        let asked = site.offer(k / QUEUE_LIMIT as usize, &packet, store);
+        let asked = site.offer((k / QUEUE_LIMIT as u64) as usize, &packet, store);
         site = asked.site;
         k += 1;
     }
@@ -44,8 +46,8 @@ fn departs(n: u64) -> u32 {
     let mut i: u64 = 0;
     while i < n {
         let mut site = full;
-        let mut made: u64 = 0;
-        while made < 100 {
+        let mut made = 0;
+        while made < SENT {
             let left = site.depart(&store, &mut out);
             site = left.site;
             let reply = left.reply;

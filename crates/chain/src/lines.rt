@@ -1,5 +1,6 @@
 // What is printed.
 use crate::sums::ACCEPTED;
+use crate::sums::COUNTS;
 use crate::sums::DEPARTED;
 use crate::sums::IDLE;
 use crate::sums::OPENED;
@@ -35,7 +36,7 @@ fn refused(k: u64, n: u64) {
     last_number(b" count=", n);
 }
 
-fn refusals(counts: &[u64; 13]) {
+fn refusals(counts: &[u64; COUNTS]) {
     let mut k: usize = 1;
     while k <= 8 {
         refused(k as u64, counts[IDLE + k]);
@@ -43,7 +44,7 @@ fn refusals(counts: &[u64; 13]) {
     }
 }
 
-pub fn counts(counts: &[u64; 13]) {
+pub fn counts(counts: &[u64; COUNTS]) {
     last_number(b"reset count=", counts[RESET]);
     last_number(b"opened count=", counts[OPENED]);
     last_number(b"accepted count=", counts[ACCEPTED]);

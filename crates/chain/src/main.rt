@@ -18,7 +18,7 @@ const CALLS_TO_A_LINE: u64 = 1000;
 const CALLS: u64 = 20000;
 
 // After every 1,000 calls the store's bytes are folded too, and a line is printed.
-fn reported(n: u64, check: u32, store: &[u8], counts: &[u64; 13]) -> u32 {
+fn reported(n: u64, check: u32, store: &[u8], counts: &[u64; sums::COUNTS]) -> u32 {
     if n % CALLS_TO_A_LINE == 0 {
         let sum = sums::folded(check, store);
         lines::line(n, sum, counts[sums::DEPARTED]);
@@ -32,7 +32,7 @@ fn run(store: &mut [u8], out: &mut [u8])
     requires { ⌜ length (now store) ≡ storeLength ⌝ }
     requires { ⌜ length (now out) ≡ 300 ⌝ }
 {
-    let mut counts = [0u64; 13];
+    let mut counts = [0u64; sums::COUNTS];
     let mut site = Site::new();
     let mut phase = phases::Phase {
         x: SEED,

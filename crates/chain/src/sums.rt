@@ -15,6 +15,9 @@ pub const DEPARTED: usize = 3;
 
 pub const IDLE: usize = 4;
 
+// Behind these, refusals 1 to 8.
+pub const COUNTS: usize = IDLE + 9;
+
 // The checksum once a reply is folded, and where the reply is counted.
 pub struct Told {
     pub check: u32,
@@ -97,8 +100,8 @@ pub fn tell(check: u32, made: Made, out: &[u8]) -> Told {
     }
 }
 
-pub fn count(counts: &mut [u64; 13], which: usize) {
-    if which < 13 {
+pub fn count(counts: &mut [u64; COUNTS], which: usize) {
+    if which < COUNTS {
         counts[which] = std::num::wrapping_add_u64(counts[which], 1);
     }
 }

@@ -6,8 +6,8 @@ use lib.ListN.{replicate}
 use Rattle.err.specs.Model.{Scheduler}
 use Rattle.err.specs.Calls.{departed, departures, andThen}
 use Rattle.err.specs.Rules.{Rules}
-use Rattle.err.specs.Replies.{sentBy}
-use Rattle.err.specs.Chain.{Call, departing, after, accepting, leaving, Packet, History, next, chain}
+use Rattle.err.specs.Replies.{Said, sentBy}
+use Rattle.err.specs.Chain.{Call, departing, after, saying, sayings, accepting, leaving, Packet, History, next, chain}
 use Rattle.err.specs.declared.Reply.{Reply}
 use Rattle.err.specs.declared.Reply.the-variants.{Departure, Idle, Refused}
 use Rattle.err.specs.declared.Sent.{Sent}
@@ -18,6 +18,11 @@ pub chain-append : (h : History) (a b : List Call) → chain h (a ++ b) ≡ chai
 unfolding chain
 chain-append h [] b = refl
 chain-append h (c ∷ a) b = chain-append (next h c) a b
+
+pub sayings-end : (h : History) (calls : List Call) (c : Call) → sayings (h .state) (calls ++ (c ∷ [])) ≡ sayings (h .state) calls ++ (saying (chain h calls .state) c ∷ [])
+unfolding sayings chain next
+sayings-end h [] c = refl
+sayings-end h (d ∷ calls) c = ap (λ (l : List Said). saying (h .state) d ∷ l) (sayings-end (next h d) calls c)
 
 pub chain-keeps : (h : History) (calls : List Call) → Rules (h .state) → Rules (chain h calls .state)
 unfolding chain next

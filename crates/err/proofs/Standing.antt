@@ -10,10 +10,10 @@ use Rattle.err.specs.Limits.{flowLimit, markLimit, allowanceLimit}
 use Rattle.err.specs.Choose.{ifEmpty, ifZero}
 use Rattle.err.specs.Model.{Round, Scheduler, flowAt}
 use Rattle.err.specs.Steps.{roundStarted, whose, whoseTurn}
-use Rattle.err.specs.Rules.{count, activity, LineRules, RoundRules, Rules}
+use Rattle.err.specs.Rules.{count, activity, LineRules, RoundRules, Rules, standingWith, standing}
 use Rattle.err.specs.declared.Serving.{Serving}
 use Rattle.err.specs.declared.Serving.the-variants.{NoTurn, Turn}
-use Rattle.err.proofs.Counts.{count-head, count-append}
+use Rattle.err.proofs.Counts.{count-head}
 use Rattle.err.proofs.Line.{line-fits, line-has-room, round-starts, activity-at-most-one}
 use Rattle.err.proofs.Flows.{beyond-not-active, waiting-in-reach}
 use Rattle.err.proofs.Keeps.{weighs, standing-waits}
@@ -113,14 +113,13 @@ module _ (s : Scheduler) (R : Rules s) where
             owed = owed-by-head (s .round .visits) f l refl L;
           }
 
-  never-twice-by : (turn : Serving) → RoundRules (flowAt s) (s .round) turn → (f : ℕ) → count f (s .round .line) ≤ 1
+  never-twice-by : (turn : Serving) → RoundRules (flowAt s) (s .round) turn → (f : ℕ) → count f (standingWith turn (s .round .line)) ≤ 1
   unfolding RoundRules
   never-twice-by NoTurn L f = omega (arith, L .stands-once f, activity-at-most-one (flowAt s f))
-  never-twice-by (Turn g a n) T f =
-      omega (arith, count-append f (g ∷ []) (s .round .line), T .0 .stands-once f, activity-at-most-one (flowAt s f))
+  never-twice-by (Turn g a n) T f = omega (arith, T .0 .stands-once f, activity-at-most-one (flowAt s f))
 
-  -- No flow stands in line twice.
-  pub never-twice : (f : ℕ) → count f (s .round .line) ≤ 1
+  -- No flow stands twice, in line or once there and once with the open turn.
+  pub never-twice : (f : ℕ) → count f (standing (s .round)) ≤ 1
   never-twice = never-twice-by (s .round .turn) (R .round-rules)
 
   -- Nor does the flow of an open turn stand in line.

@@ -32,6 +32,11 @@ saying s (offering f size) = ofAnswer (offered s f size .reply)
 saying s departing = ofReply (departed s .reply)
 saying s (bursting n list) = ofCount (burst s n list .reply)
 
+-- What the calls say, one after the other.
+unfoldable pub sayings : Scheduler → List Call → List Said
+sayings s [] = []
+sayings s (c ∷ calls) = saying s c ∷ sayings (after s c) calls
+
 pub record Packet : Type 0 where
   pub flow : ℕ
   pub size : ℕ

@@ -34,6 +34,14 @@ unfoldable pub count : ℕ → List ℕ → ℕ
 count f [] = 0
 count f (g ∷ l) = cond (eqb f g) 1 0 + count f l
 
+-- The flows that stand: that of the open turn, and those in line.
+abbrev pub standingWith : Serving → List ℕ → List ℕ
+standingWith (Turn f allowed sent) line = f ∷ line
+standingWith NoTurn line = line
+
+abbrev pub standing : Round → List ℕ
+standing r = standingWith (r .turn) (r .line)
+
 -- A flow is active, which counts 1, exactly when it has a packet waiting.
 abbrev pub activity : Flow → ℕ
 activity x = ifEmpty (x .queue) 0 1

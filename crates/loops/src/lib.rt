@@ -1,4 +1,4 @@
-// What the bench's loops share: the checksum, the sizes offered, the opened flows, and the program's arguments. bench/plain/README.md defines the loops.
+// What the bench's loops share: the checksum, the sizes offered, the opened flows, the full state, and the program's arguments. bench/plain/README.md defines the loops.
 ghost use Rattle.order.specs.Encoding.{Sound};
 use err::FLOW_LIMIT;
 use err::QUEUE_LIMIT;
@@ -7,6 +7,12 @@ use order::State;
 
 pub mod sums;
 pub mod words;
+
+// How many packets a full state has.
+pub const FULL: u64 = FLOW_LIMIT as u64 * QUEUE_LIMIT as u64;
+
+// How many departures are made from it.
+pub const SENT: usize = 100;
 
 // The size of the k-th packet: (k × 37) mod 256, and one more.
 pub fn size(k: u64) -> usize {
@@ -38,7 +44,7 @@ pub fn filled(mixed: bool) -> State
 {
     let mut s = opened(FLOW_LIMIT);
     let mut k: u64 = 0;
-    while k < 256 {
+    while k < FULL {
         let asked = s.offer((k / QUEUE_LIMIT as u64) as usize, size_or_largest(mixed, k));
         s = asked.state;
         k += 1;

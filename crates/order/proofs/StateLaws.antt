@@ -23,7 +23,7 @@ use Rattle.err.proofs.Keeps.{new-keeps, opened-keeps, offered-keeps, departed-k
 use Rattle.err.proofs.Standing.{InRange, TurnFacts, HeadFacts, in-range, room-for-another, turn-facts, head-facts, whose-in-reach}
 use Rattle.err.proofs.Choosing.{positive-chosen, chosen-has}
 use Rattle.order.specs.Encoding.{encodeFlow, viewFlow, encode, view, Sound}
-use Rattle.order.specs.Places.{endPlace, nowhere, joiningPlace, firstPlace, leavingPlace}
+use Rattle.order.specs.Places.{endPlace, nowhere, offeredPlace, joiningPlace, firstPlace, leavingPlace}
 use Rattle.order.specs.Premises.{RoundHeld, held, numbersOf, roundOf, encodeRound, viewRound, FlowReady, RoundReady, HasFirst, MayServe, MayBegin, MayVisit, VisitHeld, encodeVisit, heldVisit, OfferHeld, withLength, heldOffer, openedParts, offeredParts}
 use Rattle.order.specs.Promised.{answeredAs, offeredAs, departedAs, NewGives, OpenGives, OfferGives, DepartGives}
 use Rattle.order.specs.declared.Answered.{Answered}
@@ -226,15 +226,15 @@ module _ (c : State) (S : Sound c) where
 
   -- Open and offer: a number that no flow has is refused whatever flow is looked at.
   module _ (f at : ℕ) (e : at ≡ cond (ltb f flowLimit) f 0) where
-    pub place-in-reach : at < flowLimit
-    place-in-reach =
+    pub index-in-reach : at < flowLimit
+    index-in-reach =
         elim (decLt f flowLimit) [
           | yes b ↦ rw (e ∙ ap (λ (t : Bool). cond t f 0) (lt-ltb f flowLimit b)) b
           | no b ↦ rw (e ∙ ap (λ (t : Bool). cond t f 0) (le-ltb f flowLimit (omega arith))) (omega arith)
         ]
 
-    place-is : f < flowLimit → at ≡ f
-    place-is b = e ∙ ap (λ (t : Bool). cond t f 0) (lt-ltb f flowLimit b)
+    index-is : f < flowLimit → at ≡ f
+    index-is b = e ∙ ap (λ (t : Bool). cond t f 0) (lt-ltb f flowLimit b)
 
     -- Where a call is refused one flow is put back as it was, and otherwise its own is put anew.
     put-unless : (n : ℕ) (y : Flow) (q : Round) → (n ≡ 0 → at ≡ f)
@@ -250,7 +250,7 @@ module _ (c : State) (S : Sound c) where
       effect-here : ρ looked-at ≡ 0 → at ≡ f
       effect-here z =
           elim (decLt f flowLimit) [
-            | yes b ↦ place-is b
+            | yes b ↦ index-is b
             | no b ↦ absurd (omega (arith, refuses looked-at (omega arith)))
           ]
 
@@ -259,7 +259,7 @@ module _ (c : State) (S : Sound c) where
           → ifZero (ρ looked-at) (made looked-at) kept ≡ ifZero (ρ (flowAt (view c) f)) (made (flowAt (view c) f)) kept
       same-choice made kept =
           elim (decLt f flowLimit) [
-            | yes b ↦ ap (λ (k : ℕ). ifZero (ρ (flowAt (view c) k)) (made (flowAt (view c) k)) kept) (place-is b)
+            | yes b ↦ ap (λ (k : ℕ). ifZero (ρ (flowAt (view c) k)) (made (flowAt (view c) k)) kept) (index-is b)
             | no b ↦
                 positive-chosen (ρ looked-at) (made looked-at) kept (λ z. omega (arith, refuses looked-at (omega arith)))
                 ∙ sym (positive-chosen (ρ (flowAt (view c) f)) (made (flowAt (view c) f)) kept (λ z. omega (arith, refuses (flowAt (view c) f) (omega arith))))
@@ -268,7 +268,7 @@ module _ (c : State) (S : Sound c) where
       same-number : ρ looked-at ≡ ρ (flowAt (view c) f)
       same-number =
           elim (decLt f flowLimit) [
-            | yes b ↦ ap (λ (k : ℕ). ρ (flowAt (view c) k)) (place-is b)
+            | yes b ↦ ap (λ (k : ℕ). ρ (flowAt (view c) k)) (index-is b)
             | no b ↦ refuses looked-at (omega arith) ∙ sym (refuses (flowAt (view c) f) (omega arith))
           ]
 
@@ -313,7 +313,7 @@ module _ (c : State) (S : Sound c) where
             ≡ answeredAs (opened (view c) f weight)
         outcome-here =
             asked-outcome (openRefusal f weight) (λ y h. no-such-flow _ h) (λ y. openFlow weight) (λ y. view c .round)
-            (a .flow) (c .line) (c .round) (a .answer) x (cell-seen at place-in-reach)
+            (a .flow) (c .line) (c .round) (a .answer) x (cell-seen at index-in-reach)
             (ap (λ (k : Opened). k .flow) g)
             (round-form ∙ ap encodeRound (sym (chosen-has (λ (r : Round). r ≡ view c .round) (openRefusal f weight x) (view c .round) (view c .round) (λ z. refl) refl)))
             (ap (λ (k : Opened). k .answer) g)
@@ -321,11 +321,11 @@ module _ (c : State) (S : Sound c) where
     room-in-line : f < flowLimit → getD (c .flows) at noCell .waiting ≡ 0 → c .round .length < flowLimit
     unfolding view viewRound
     room-in-line b z =
-        omega (arith, length-is (roundOf c) round-form, room-for-another (view c) (S .rules) at place-in-reach (none-is-empty (flowAt (view c) at .queue) (sym (count-is at place-in-reach) ∙ z)))
+        omega (arith, length-is (roundOf c) round-form, room-for-another (view c) (S .rules) at index-in-reach (none-is-empty (flowAt (view c) at .queue) (sym (count-is at index-in-reach) ∙ z)))
 
     pub may-offer-to : RoundReady (roundOf c)
         × (FlowReady (getD (c .flows) at noCell) × (f < flowLimit → getD (c .flows) at noCell .waiting ≡ 0 → c .round .length < flowLimit))
-    may-offer-to = (round-of-sound, (cell-ready at place-in-reach, room-in-line))
+    may-offer-to = (round-of-sound, (cell-ready at index-in-reach, room-in-line))
 
     pub offered-gives : (size : ℕ) (o : Offered) (line : List ℕ) → heldOffer line (c .round) o ≡ offeredParts (roundOf c) (getD (c .flows) at noCell) f size
         → OfferGives c f size (record { state = record { flows = set (c .flows) at (o .flow); line = line; round = withLength (c .round) (o .length) }; answer = o .answer; into = o .into })
@@ -343,13 +343,13 @@ module _ (c : State) (S : Sound c) where
             ≡ answeredAs (offered (view c) f size)
         outcome-here =
             asked-outcome (offerRefusal f size) (λ y h. no-such-flow _ h) (λ y. packetJoined y size) (λ y. flowLined (view c .round) f y)
-            (o .flow) line (withLength (c .round) (o .length)) (o .answer) x (cell-seen at place-in-reach)
+            (o .flow) line (withLength (c .round) (o .length)) (o .answer) x (cell-seen at index-in-reach)
             (ap (λ (k : OfferHeld). k .flow) g) (ap (λ (k : OfferHeld). k .round) g) (ap (λ (k : OfferHeld). k .answer) g)
 
         place-here : o .into ≡ joiningPlace (view c) f size
         place-here =
             ap (λ (k : OfferHeld). k .into) g
-            ∙ ap (λ (y : Flow). ifZero (offerRefusal f size y) (endPlace f y size) nowhere) (cell-seen at place-in-reach)
+            ∙ ap (λ (y : Flow). offeredPlace f y size) (cell-seen at index-in-reach)
             ∙ same-choice (offerRefusal f size) (λ y h. no-such-flow _ h) (λ y. packetJoined y size) (λ y. flowLined (view c .round) f y)
             (λ y. endPlace f y size) nowhere
 

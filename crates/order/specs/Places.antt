@@ -13,9 +13,12 @@ endPlace f x size = record { flow = f; slot = nextSlotOf x; size = size }
 abbrev pub nowhere : Place
 nowhere = record { flow = 0; slot = 0; size = 0 }
 
--- Where a packet lies once it is accepted; nowhere where it is refused.
+-- Where a packet lies that is offered to a flow; nowhere where it is refused.
+abbrev pub offeredPlace : ℕ → Flow → ℕ → Place
+offeredPlace f x size = ifZero (offerRefusal f size x) (endPlace f x size) nowhere
+
 abbrev pub joiningPlace : Scheduler → ℕ → ℕ → Place
-joiningPlace s f size = ifZero (offerRefusal f size (flowAt s f)) (endPlace f (flowAt s f) size) nowhere
+joiningPlace s f size = offeredPlace f (flowAt s f) size
 
 -- Where the first packet of a flow lies; of size 0 where none waits.
 abbrev pub firstPlace : ℕ → Flow → Place

@@ -14,7 +14,7 @@ use Rattle.err.specs.declared.Reply.{Reply}
 use Rattle.err.specs.declared.Serving.{Serving}
 use Rattle.err.specs.declared.Serving.the-variants.{NoTurn, Turn}
 use Rattle.order.specs.Encoding.{cells, lineRoom, encodeFlow, viewFlow}
-use Rattle.order.specs.Places.{endPlace, nowhere}
+use Rattle.order.specs.Places.{offeredPlace}
 use Rattle.order.specs.declared.FlowCell.{FlowCell}
 use Rattle.order.specs.declared.Offered.{Offered}
 use Rattle.order.specs.declared.Opened.{Opened}
@@ -152,5 +152,5 @@ offeredParts r x f size =
       round = encodeRound (ifZero (offerRefusal f size (viewFlow x)) (flowLined (viewRound r) f (viewFlow x)) (viewRound r));
       flow = encodeFlow (ifZero (offerRefusal f size (viewFlow x)) (packetJoined (viewFlow x) size) (viewFlow x));
       answer = answerOf (offerRefusal f size (viewFlow x));
-      into = ifZero (offerRefusal f size (viewFlow x)) (endPlace f (viewFlow x) size) nowhere;
+      into = offeredPlace f (viewFlow x) size;
     }

@@ -1,5 +1,5 @@
 -- What each public call promises: its reply and the state that it gives back are those of the model's call on the scheduler that the state stands for,
--- and the state meets the premise of the next call.
+-- the place is that of the packet, and the state meets the premise of the next call.
 use Prim.Native.Nat.{ℕ}
 use mathlib.Core.Path.{_≡_}
 use mathlib.Core.List.{List}

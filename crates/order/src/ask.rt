@@ -27,8 +27,8 @@ use err::QUEUE_LIMIT;
 use err::SIZE_LIMIT;
 use err::WEIGHT_LIMIT;
 
-// Where a flow lies; a number that no flow has is refused, and meanwhile stands for flow 0.
-pub fn place(f: usize) -> usize
+// Where a flow lies among the flows; a number that no flow has is refused, and meanwhile stands for flow 0.
+pub fn index(f: usize) -> usize
     ensures { λ at. ⌜ at ≡ cond (ltb f flowLimit) f 0 ⌝ }
 {
     if f < FLOW_LIMIT { f } else { 0 }

@@ -14,12 +14,15 @@ use err::SIZE_LIMIT;
 // The waiting packets' sizes, each less one, are the digits of a number in this base.
 const BASE: u64 = SIZE_LIMIT as u64;
 
+// How many bits such a digit has.
+const DIGIT_BITS: usize = 8;
+
 // What a digit at a place of that number is worth.
 fn worth(at: usize) -> u64
     requires { ⌜ at < queueLimit ⌝ }
     ensures { λ r. ⌜ r ≡ sizeLimit ^ at ⌝ }
 {
-    1 << (8 * at)
+    1 << (DIGIT_BITS * at)
 }
 
 // Step 1: a packet of this size joins the end of the queue.
@@ -75,14 +78,14 @@ pub fn cleared(x: FlowCell) -> FlowCell
     }
 }
 
-// Step 3: the size of the first packet.
+// Step 3: the size of the first packet, if there is one; any flow may be asked.
 pub fn first_size(x: FlowCell) -> u16
     ensures { λ r. ⌜ (HasFirst x → r ≡ firstSize (viewFlow x)) ⌝ }
 {
     (x.sizes % BASE) as u16 + 1
 }
 
-// Step 3: where the first packet of flow f lies.
+// Step 3: where the first packet of flow f lies; any flow may be asked.
 pub fn first_place(f: usize, x: FlowCell) -> Place
     ensures { λ r. ⌜ (FlowReady x → r ≡ firstPlace f (viewFlow x)) ⌝ }
 {

@@ -131,7 +131,7 @@ impl State {
         requires { ⌜ Sound self ⌝ }
         ensures { λ r. ⌜ OpenGives self f weight r ⌝ }
     {
-        let at = ask::place(f);
+        let at = ask::index(f);
         let asked = ask::opened(self.flows[at], f, weight);
         let flow = asked.flow;
         self.flows[at] = flow;
@@ -146,7 +146,7 @@ impl State {
         requires { ⌜ Sound self ⌝ }
         ensures { λ r. ⌜ OfferGives self f size r ⌝ }
     {
-        let at = ask::place(f);
+        let at = ask::index(f);
         let round = self.round;
         let flow = self.flows[at];
         let told = ask::offered(&mut self.line, round, flow, f, size);

@@ -25,11 +25,16 @@ use Rattle.order.specs.declared.Departed.{Departed}
 use Rattle.order.specs.declared.Place.{Place}
 use Rattle.order.specs.declared.Placed.{Placed}
 use Rattle.order.specs.declared.State.{State}
-use Rattle.store.specs.Slots.{storeLength, outLimit, slotStart, written, held}
+use Rattle.store.specs.Slots.{storeLength, outLimit, written, held}
 use Rattle.store.specs.Calls.{storeOffer, storeOfferRefusal, storeDepart, storeDepartRefusal, sentOut}
 use Rattle.store.specs.Promised.{schedulerOf, SoundSite, siteOf, answeredAs, departedAs, NewGives, OpenGives, OfferGives, DepartGives}
 use Rattle.store.specs.declared.Site.{Site}
+use Rattle.store.proofs.SlotLaws.{held-nothing, written-nothing}
 use Rattle.store.proofs.CallLaws.{offer-wrong-store, offer-state, offer-answer, offer-refused, offer-writes, offer-number, depart-wrong-store, depart-short-out, depart-may, depart-refused, depart-made, sent-departure}
+
+-- A place is one of the store's.
+abbrev pub InStore : Place → Type 0
+InStore p = (p .flow < flowLimit) × (p .slot < queueLimit) × (p .size ≤ sizeLimit)
 
 -- The outgoing buffer with the bytes that lie at a place put at its start.
 abbrev pub fetched : Place → List ℕ → List ℕ → List ℕ
@@ -37,7 +42,7 @@ fetched p store out = held store (p .flow) (p .slot) (p .size) ++ drop (p .size)
 
 -- A departure takes its bytes from the place that the order layer tells; of size 0, and so none, where nothing departs.
 sent-out-is-fetched : (s : Scheduler) → Rules s → (store out : List ℕ) → sentOut (departed s .reply) s store out ≡ fetched (leavingPlace s) store out
-unfolding sentOut held
+unfolding sentOut
 sent-out-is-fetched s R store out = by (sends-or-stays s)
   where
     by : SendsOrStays s → sentOut (departed s .reply) s store out ≡ fetched (leavingPlace s) store out
@@ -49,6 +54,7 @@ sent-out-is-fetched s R store out = by (sends-or-stays s)
         ∙ ap (λ (k : ℕ). fetched (firstPlace k (flowAt s k)) store out) (L .had-the-turn)
     by (stays i same t l) =
         ap (λ (r : Reply). sentOut r s store out) i
+        ∙ ap (λ (b : List ℕ). b ++ out) (sym (held-nothing store (whose (s .round)) (flowAt s (whose (s .round)) .slot)))
         ∙ ap (λ (q : List ℕ). fetched (record { flow = whose (s .round); slot = flowAt s (whose (s .round)) .slot; size = getD q 0 0 }) store out)
         (sym (nobody-waits s R t l (whose (s .round))))
 
@@ -100,7 +106,7 @@ module _ (site : Site) (S : SoundSite site) where
     place n = ifZero n (endPlace f (flowAt s f) (length packet)) nowhere
 
     abbrev pub Fits : Place → Type 0
-    Fits p = ((p .flow < flowLimit) × (p .slot < queueLimit) × (p .size ≤ sizeLimit)) × (p .size ≤ length packet)
+    Fits p = InStore p × (p .size ≤ length packet)
 
     place-fits : (n : ℕ) → number ≡ n → Fits (place n)
     place-fits zero e =
@@ -110,9 +116,8 @@ module _ (site : Site) (S : SoundSite site) where
 
     written-there : (n : ℕ) → written store (place n .flow) (place n .slot) (take (place n .size) packet)
         ≡ ifZero n (written store f (nextSlotOf (flowAt s f)) packet) store
-    unfolding written slotStart
     written-there zero = ap (λ (l : List ℕ). written store f (nextSlotOf (flowAt s f)) l) (take-all (length packet) packet (omega arith))
-    written-there (suc n) = refl
+    written-there (suc n) = written-nothing store 0 0
 
     module _ (all : length store ≡ storeLength) (a : Placed) (g : order.OfferGives (site .order) f (length packet) a) where
       -- Where the store has its length, state and answer are what the order layer gives.
@@ -174,9 +179,9 @@ module _ (site : Site) (S : SoundSite site) where
       from-is = ap (λ (k : Departed). k .from) (g .outcome)
 
       -- Where the packet lay is a place in the store.
-      pub from-fits : (a .from .flow < flowLimit) × (a .from .slot < queueLimit) × (a .from .size ≤ sizeLimit)
+      pub from-fits : InStore (a .from)
       from-fits =
-          subst (λ (p : Place). (p .flow < flowLimit) × (p .slot < queueLimit) × (p .size ≤ sizeLimit)) (sym from-is)
+          subst InStore (sym from-is)
           (whose-in-reach s rules-of-site, rules-of-site .flow-rules (whose (s .round)) .slot-in-range, first-small (rules-of-site .flow-rules (whose (s .round)) .sizes-in-range))
 
       departure-outcome : record { site = record { order = a .state }; reply = a .reply }

@@ -1,7 +1,7 @@
 -- Where bytes lie. `written` and `held` are opened here alone, and `slotStart` here and where the code computes it: a packet is held where it was
 -- written, and slots are apart.
 use Prim.Native.Nat.{ℕ, _+_, _-_, _≤_, _<_}
-use mathlib.Core.Path.{_≡_, sym, ap, ap₂, _∙_}
+use mathlib.Core.Path.{_≡_, refl, sym, ap, ap₂, _∙_}
 use mathlib.Core.List.{List, [], _++_, append-assoc, append-nil}
 use native.Mathlib.Omega.{arith}
 use native.Mathlib.Decide.{decLe}
@@ -9,6 +9,15 @@ use lib.ListN.{length, take, drop, length-append, length-drop, take-append-drop,
 use lib.Seq.{take-all, length-take-le, take-append-le, drop-append-le, drop-append-add, drop-drop, take-append-seam, drop-at}
 use Rattle.err.specs.Limits.{flowLimit, queueLimit, sizeLimit}
 use Rattle.store.specs.Slots.{storeLength, slotStart, written, held}
+
+-- Nothing is held in no bytes, and writing none changes nothing.
+pub held-nothing : (store : List ℕ) (f k : ℕ) → held store f k 0 ≡ []
+unfolding held
+held-nothing store f k = refl
+
+pub written-nothing : (store : List ℕ) (f k : ℕ) → written store f k [] ≡ store
+unfolding written
+written-nothing store f k = ap (λ (n : ℕ). take (slotStart f k) store ++ drop n store) (omega arith) ∙ take-append-drop (slotStart f k) store
 
 -- A slot has room for every packet.
 pub slot-in-store : (f k n : ℕ) → f < flowLimit → k < queueLimit → n ≤ sizeLimit → slotStart f k + n ≤ storeLength

@@ -77,7 +77,7 @@ impl Site {
         let asked = order.offer(f, packet.len());
         let state = asked.state;
         let answer = asked.answer;
-        // Where the packet is refused the size is 0, and nothing is written.
+        // Where the packet is refused the size is 0, and nothing is written: a branch on the answer here would cost a copy of the site.
         let into = asked.into;
         slots::write(store, into.flow, into.slot, &packet[..into.size]);
         SiteAnswered {
@@ -107,7 +107,7 @@ impl Site {
         let sent = order.depart();
         let state = sent.state;
         let reply = sent.reply;
-        // Where nothing departs the size is 0, and nothing is copied.
+        // Where nothing departs the size is 0, and nothing is copied: a branch on the reply here would cost a copy of the site.
         let from = sent.from;
         slots::read(store, from.flow, from.slot, from.size, out);
         SiteDeparted {

@@ -11,7 +11,7 @@ cast-at : tie.Need-cast-at
 cast-at c = search needs
 
 element-write-line : tie.Need-element-write-line
-element-write-line c = omega (arith, c .before .before .before .pre .1 .1 (c .before .if1 .taken))
+element-write-line c = omega (arith, c .before .before .before .pre .0 .line-fits)
 
 add-result : tie.Need-add-result
 add-result c = search needs
