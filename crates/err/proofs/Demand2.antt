@@ -97,8 +97,8 @@ idle-when-nothing-waits s R = (λ e. only e (sends-or-stays s), λ h. if h (send
     if h (stays i same t l) = i
 
 -- Idle gives back the state as it was.
-pub idle-changes-nothing : (s : Scheduler) → Rules s → departed s .reply ≡ Idle → departed s .state ≡ s
-idle-changes-nothing s R e = idle-stays s e
+pub idle-changes-nothing : (s : Scheduler) → departed s .reply ≡ Idle → departed s .state ≡ s
+idle-changes-nothing s e = idle-stays s e
 
 -- A refusal gives back the state as it was, and burst's the list too.
 unless-refused : (n : ℕ) (s t : Scheduler) (k : ℕ) → unlessRefused n s t .reply ≡ AnswerRefused k → unlessRefused n s t .state ≡ s
@@ -126,7 +126,7 @@ refused-burst-changes-nothing s n list k e = by (burstRefusal n list) (CountRefu
     by (suc m) c i = (refl, refl)
 
 -- N single calls make the departures that a burst of N makes, and leave its state: those after the first idle are idle too.
-pub burst-as-single-calls : (n : ℕ) (h : History) → Rules (h .state)
+pub burst-as-single-calls : (n : ℕ) (h : History)
     → chain h (replicate n departing)
     ≡ record { state = departures n (h .state) .state; accepted = h .accepted; left = h .left ++ departures n (h .state) .sent }
-burst-as-single-calls n h R = single-calls-make-departures n h
+burst-as-single-calls n h = single-calls-make-departures n h

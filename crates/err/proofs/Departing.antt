@@ -19,15 +19,22 @@ use Rattle.err.proofs.Parts.{schedulerMadeOf}
 use Rattle.err.proofs.Flows.{at-put, at-others, put-back, put-relates, first-and-rest}
 use Rattle.err.proofs.Standing.{TurnFacts, HeadFacts, turn-facts, head-facts}
 
--- From s the packet of d leaves, and t is left: it was the first of the queue of the flow whose turn it was, and that flow's slot moves on to the next.
+-- From s the packet of d leaves, and t is left: it was the first of the queue of the flow whose turn it was, and that flow's slot moves on to the next
+-- while its weight stays.
 pub record Leaves (s : Scheduler) (d : Sent) (t : Scheduler) : Type 0 where
   pub had-the-turn : d .flow ≡ whose (s .round)
   pub in-reach : d .flow < flowLimit
   pub first-in-queue : flowAt s (d .flow) .queue ≡ d .size ∷ flowAt t (d .flow) .queue
   pub slot-moves-on : flowAt t (d .flow) .slot ≡ nextSlot (flowAt s (d .flow) .slot)
+  pub weight-stays : flowAt t (d .flow) .weight ≡ flowAt s (d .flow) .weight
   pub others-stay : (g : ℕ) → (g ≡ d .flow → ⊥) → flowAt t g ≡ flowAt s g
 
--- Steps 4 to 6 touch neither slot nor queue, and the reply is a departure.
+-- Steps 4 to 6 touch neither weight nor slot nor queue, and the reply is a departure.
+settled-weight : (b : Bool) (r : Round) (x : Flow) (f a n : ℕ) (reply : Reply) → settled b r x f a n reply .flow .weight ≡ x .weight
+unfolding settled excessKept
+settled-weight true r x f a n reply = refl
+settled-weight false r x f a n reply = refl
+
 settled-slot : (b : Bool) (r : Round) (x : Flow) (f a n : ℕ) (reply : Reply) → settled b r x f a n reply .flow .slot ≡ x .slot
 unfolding settled excessKept
 settled-slot true r x f a n reply = refl
@@ -51,6 +58,10 @@ module _ (r : Round) (x : Flow) (f a n : ℕ) where
   unfolding served
   served-reply = settled-reply (turnEnds a (n + firstSize x) (drop 1 (x .queue))) r (firstLeft x) f a (n + firstSize x) (Departure told)
 
+  served-weight : served r x f a n .flow .weight ≡ x .weight
+  unfolding served firstLeft
+  served-weight = settled-weight (turnEnds a (n + firstSize x) (drop 1 (x .queue))) r (firstLeft x) f a (n + firstSize x) (Departure told)
+
   served-slot : served r x f a n .flow .slot ≡ nextSlot (x .slot)
   unfolding served firstLeft
   served-slot = settled-slot (turnEnds a (n + firstSize x) (drop 1 (x .queue))) r (firstLeft x) f a (n + firstSize x) (Departure told)
@@ -63,9 +74,9 @@ module _ (r : Round) (x : Flow) (f a n : ℕ) where
   pub served-tells : (d : Sent) → served r x f a n .reply ≡ Departure d → told ≡ d
   served-tells d e = let both : Departure told ≡ Departure d = sym served-reply ∙ e in cc
 
-  -- Serving flow f, whose turn it is and whose slot and queue are those that it has in s.
-  module _ (s : Scheduler) (turn : f ≡ whose (s .round)) (slots : x .slot ≡ flowAt s f .slot) (queues : x .queue ≡ flowAt s f .queue)
-      (all : length (s .flows) ≡ flowLimit) (inside : f < flowLimit) (waits : flowAt s f .queue ≡ [] → ⊥) where
+  -- Serving flow f, whose turn it is and whose weight, slot and queue are those that it has in s.
+  module _ (s : Scheduler) (turn : f ≡ whose (s .round)) (weights : x .weight ≡ flowAt s f .weight) (slots : x .slot ≡ flowAt s f .slot)
+      (queues : x .queue ≡ flowAt s f .queue) (all : length (s .flows) ≡ flowLimit) (inside : f < flowLimit) (waits : flowAt s f .queue ≡ [] → ⊥) where
     abbrev left : Scheduler
     left = put s f (served r x f a n .flow) (served r x f a n .round)
 
@@ -83,6 +94,7 @@ module _ (r : Round) (x : Flow) (f a n : ℕ) where
               ∙ ap (λ (q : List ℕ). getD q 0 0 ∷ drop 1 q) (sym queues)
               ∙ ap (λ (q : List ℕ). firstSize x ∷ q) (sym (ap (λ (y : Flow). y .queue) here ∙ served-queue));
           slot-moves-on = ap (λ (y : Flow). y .slot) here ∙ served-slot ∙ ap nextSlot slots;
+          weight-stays = ap (λ (y : Flow). y .weight) here ∙ served-weight ∙ weights;
           others-stay = at-others s f (served r x f a n .flow) (served r x f a n .round);
         })
 
@@ -94,13 +106,13 @@ unfolding departed visit visitBy surplusCleared
 departed-leaves-parts flows line visits mark running (Turn f a n) R d e =
     let s : Scheduler = schedulerMadeOf flows line visits mark running (Turn f a n) in
     let T : TurnFacts s f a n = turn-facts s R f a n refl in
-    served-leaves (s .round) (flowAt s f) f a n s refl refl refl (R .all-flows) (T .in-reach) (T .waits) d e
+    served-leaves (s .round) (flowAt s f) f a n s refl refl refl refl (R .all-flows) (T .in-reach) (T .waits) d e
 departed-leaves-parts flows [] visits mark running NoTurn R d e = let z : _≡_ {A = ℕ} 0 1 = cc in absurd (omega arith)
 departed-leaves-parts flows (f ∷ line) visits mark running NoTurn R d e =
     let s : Scheduler = schedulerMadeOf flows (f ∷ line) visits mark running NoTurn in
     let H : HeadFacts s f = head-facts s R refl (omega arith) in
     let a : ℕ = headAllowance (s .round) (flowAt s f) in
-    served-leaves (turnOpened (roundStarted (s .round)) f a) (surplusCleared (flowAt s f)) f a 0 s refl refl refl (R .all-flows) (H .in-reach) (H .waits) d e
+    served-leaves (turnOpened (roundStarted (s .round)) f a) (surplusCleared (flowAt s f)) f a 0 s refl refl refl refl (R .all-flows) (H .in-reach) (H .waits) d e
 
 pub departed-leaves : (s : Scheduler) → Rules s → (d : Sent) → departed s .reply ≡ Departure d → Leaves s d (departed s .state)
 departed-leaves s R d e =

@@ -1,0 +1,128 @@
+-- The slots that a flow's packets take, over any list of calls from a new scheduler.
+use Prim.Native.Nat.{ℕ, zero, suc, _+_, _%_}
+use mathlib.Core.Path.{_≡_, refl, sym, ap, _∙_}
+use mathlib.Core.List.{List, [], _∷_, append-nil}
+use native.Mathlib.Omega.{arith}
+use lib.ListN.{length, length-append}
+use Rattle.err.specs.Limits.{queueLimit}
+use Rattle.err.specs.Model.{Flow, Scheduler, flowAt, newScheduler}
+use Rattle.err.specs.Steps.{nextSlotOf, packetJoined}
+use Rattle.err.specs.Calls.{put, openFlow, opened, offered, departed, departures, andThen, burst, burstMade, unlessRefused, openRefusal, offerRefusal, burstRefusal}
+use Rattle.err.specs.Rules.{Rules}
+use Rattle.err.specs.Chain.{Call, resetting, opening, offering, departing, bursting, after, accepting, History, start, next, chain, Packet, sizesOf}
+use Rattle.err.specs.declared.Reply.{Reply}
+use Rattle.err.specs.declared.Reply.the-variants.{Departure, Idle, Refused}
+use Rattle.err.proofs.Choosing.{chosen-has}
+use Rattle.err.proofs.Refusals.{MayOpen, may-open}
+use Rattle.err.proofs.Line.{same-or-other}
+use Rattle.err.proofs.Flows.{at-others, here-now, put-relates}
+use Rattle.err.proofs.Keeps.{new-closed, new-keeps, offered-keeps, departed-keeps, every-call-keeps}
+use Rattle.err.proofs.Departing.{Leaves, departed-leaves, SendsOrStays, sends, stays, sends-or-stays}
+use Rattle.err.proofs.Queues.{sizes-append, offered-queue}
+
+-- Of a flow's packets n were accepted: the next takes slot n mod 8, and a flow that is not open has had none, so that opening it may begin at slot 0.
+record InTurn (x : Flow) (n : ℕ) : Type 0 where
+  pub next-slot : nextSlotOf x ≡ n % queueLimit
+  pub none-if-closed : x .weight ≡ 0 → n ≡ 0
+
+new-in-turn : (f : ℕ) → InTurn (flowAt newScheduler f) 0
+new-in-turn f = rw (new-closed f) (record { next-slot = refl; none-if-closed = λ e. refl })
+
+opened-in-turn : (s : Scheduler) (g weight : ℕ) → Rules s → (f n : ℕ) → InTurn (flowAt s f) n → InTurn (flowAt (opened s g weight .state) f) n
+unfolding opened unlessRefused
+opened-in-turn s g weight R f n T =
+    chosen-has (λ t. InTurn (flowAt t f) n) (openRefusal g weight (flowAt s g)) (put s g (openFlow weight) (s .round)) s
+    (λ e. effect (may-open g weight (flowAt s g) e) T) T
+  where
+    effect : MayOpen g weight (flowAt s g) → InTurn (flowAt s f) n → InTurn (flowAt (put s g (openFlow weight) (s .round)) f) n
+    effect may =
+        same-or-other (λ h. InTurn (flowAt s h) n → InTurn (flowAt (put s g (openFlow weight) (s .round)) h) n) g f
+        (λ U.
+        let none : n ≡ 0 = U .none-if-closed (may .not-open) in
+        rw (here-now s R (may .flow-in-range) (openFlow weight) (s .round))
+        (record { next-slot = omega arith; none-if-closed = λ e. none }))
+        (λ d U. rw (at-others s g (openFlow weight) (s .round) f d) U)
+
+-- An offer leaves every weight and every slot position.
+offered-weight-and-slot : (s : Scheduler) (g size f : ℕ)
+    → (flowAt (offered s g size .state) f .weight ≡ flowAt s f .weight) × (flowAt (offered s g size .state) f .slot ≡ flowAt s f .slot)
+unfolding offered unlessRefused put packetJoined
+offered-weight-and-slot s g size f =
+    chosen-has (λ t. (flowAt t f .weight ≡ flowAt s f .weight) × (flowAt t f .slot ≡ flowAt s f .slot)) (offerRefusal g size (flowAt s g)) _ s
+    (λ e. put-relates (λ x y. (y .weight ≡ x .weight) × (y .slot ≡ x .slot)) (λ x. (refl, refl)) (s .flows) g (packetJoined (flowAt s g) size) (refl, refl) f)
+    (refl, refl)
+
+-- What an offer adds to a queue was accepted; where it leaves the flow closed, the queue is empty, so it added none.
+offered-in-turn : (s : Scheduler) (g size : ℕ) → Rules s → (f n : ℕ) → InTurn (flowAt s f) n
+    → InTurn (flowAt (offered s g size .state) f) (n + length (sizesOf f (accepting s (offering g size))))
+offered-in-turn s g size R f n T =
+    record {
+      next-slot = omega (arith, joined, offered-weight-and-slot s g size f);
+      none-if-closed = λ e.
+          let before : n ≡ 0 = T .none-if-closed (sym (offered-weight-and-slot s g size f .0) ∙ e) in
+          omega (arith, joined, ap length (offered-keeps s g size R .flow-rules f .open-if-waiting e));
+    }
+  where
+    joined : length (flowAt (offered s g size .state) f .queue) ≡ length (flowAt s f .queue) + length (sizesOf f (accepting s (offering g size)))
+    joined = ap length (offered-queue s g size R f) ∙ length-append (flowAt s f .queue) (sizesOf f (accepting s (offering g size)))
+
+-- A packet that leaves moves its flow's slot on by one, and its queue is shorter by one: the slot of the next to come stays.
+departed-in-turn : (s : Scheduler) → Rules s → (f n : ℕ) → InTurn (flowAt s f) n → InTurn (flowAt (departed s .state) f) n
+departed-in-turn s R f n T = by (sends-or-stays s)
+  where
+    by : SendsOrStays s → InTurn (flowAt (departed s .state) f) n
+    by (sends d e) =
+        let L : Leaves s d (departed s .state) = departed-leaves s R d e in
+        same-or-other (λ g. InTurn (flowAt s g) n → InTurn (flowAt (departed s .state) g) n) (d .flow) f
+        (λ U. record { next-slot = omega (arith, ap length (L .first-in-queue)); none-if-closed = λ w. U .none-if-closed (sym (L .weight-stays) ∙ w) })
+        (λ q U. rw (L .others-stay f q) U)
+        T
+    by (stays e same t l) = rw same T
+
+departures-in-turn : (k : ℕ) (s : Scheduler) → Rules s → (f n : ℕ) → InTurn (flowAt s f) n → InTurn (flowAt (departures k s .state) f) n
+unfolding departures andThen
+departures-in-turn zero s R f n T = T
+departures-in-turn (suc k) s R f n T =
+    by (departed s .reply) (departed-in-turn s R f n T) (departures-in-turn k (departed s .state) (departed-keeps s R) f n (departed-in-turn s R f n T))
+  where
+    t : Scheduler
+    t = departed s .state
+
+    by : (reply : Reply) → InTurn (flowAt t f) n → InTurn (flowAt (departures k t .state) f) n
+        → InTurn (flowAt (andThen reply t (departures k t) .state) f) n
+    by (Departure d) now then = then
+    by Idle now then = now
+    by (Refused j) now then = now
+
+burst-in-turn : (s : Scheduler) (k : ℕ) (list : List ℕ) → Rules s → (f n : ℕ) → InTurn (flowAt s f) n → InTurn (flowAt (burst s k list .state) f) n
+unfolding burst burstMade
+burst-in-turn s k list R f n T =
+    chosen-has (λ b. InTurn (flowAt (b .state) f) n) (burstRefusal k list) (burstMade list (departures k s)) _ (λ e. departures-in-turn k s R f n T) T
+
+-- The packets of flow f that were accepted since the last reset.
+abbrev acceptedOf : History → ℕ → ℕ
+acceptedOf h f = length (sizesOf f (h .accepted))
+
+next-in-turn : (h : History) (c : Call) → Rules (h .state) → (f : ℕ) → InTurn (flowAt (h .state) f) (acceptedOf h f)
+    → InTurn (flowAt (next h c .state) f) (acceptedOf (next h c) f)
+unfolding next after accepting sizesOf
+next-in-turn h resetting R f T = new-in-turn f
+next-in-turn h (opening g weight) R f T = rw (append-nil (h .accepted)) (opened-in-turn (h .state) g weight R f (acceptedOf h f) T)
+next-in-turn h (offering g size) R f T =
+    let a : List Packet = accepting (h .state) (offering g size) in
+    rw (ap length (sizes-append f (h .accepted) a) ∙ length-append (sizesOf f (h .accepted)) (sizesOf f a))
+    (offered-in-turn (h .state) g size R f (acceptedOf h f) T)
+next-in-turn h departing R f T = rw (append-nil (h .accepted)) (departed-in-turn (h .state) R f (acceptedOf h f) T)
+next-in-turn h (bursting k list) R f T = rw (append-nil (h .accepted)) (burst-in-turn (h .state) k list R f (acceptedOf h f) T)
+
+chain-in-turn : (h : History) (calls : List Call) → Rules (h .state) → (f : ℕ) → InTurn (flowAt (h .state) f) (acceptedOf h f)
+    → InTurn (flowAt (chain h calls .state) f) (acceptedOf (chain h calls) f)
+unfolding chain next
+chain-in-turn h [] R f T = T
+chain-in-turn h (c ∷ calls) R f T = chain-in-turn (next h c) calls (every-call-keeps (h .state) c R) f (next-in-turn h c R f T)
+
+-- Packet k of a flow since the last reset, counted from 0, takes slot k mod 8.
+pub slots-in-turn : (calls : List Call) (f : ℕ)
+    → nextSlotOf (flowAt (chain start calls .state) f) ≡ length (sizesOf f (chain start calls .accepted)) % queueLimit
+unfolding start sizesOf
+slots-in-turn calls f = chain-in-turn start calls new-keeps f (new-in-turn f) .next-slot
