@@ -29,6 +29,13 @@ unfolding chain next
 chain-keeps h [] R = R
 chain-keeps h (c ∷ calls) R = chain-keeps (next h c) calls (every-call-keeps (h .state) c R)
 
+-- What every call keeps of a history whose state keeps the rules, every chain of calls keeps.
+pub chain-holds : (P : History → Type 0) → ((h : History) (c : Call) → Rules (h .state) → P h → P (next h c))
+    → (h : History) (calls : List Call) → Rules (h .state) → P h → P (chain h calls)
+unfolding chain next
+chain-holds P keeps h [] R p = p
+chain-holds P keeps h (c ∷ calls) R p = chain-holds P keeps (next h c) calls (every-call-keeps (h .state) c R) (keeps h c R p)
+
 -- One single departure call in a history.
 one-single : (h : History)
     → next h departing ≡ record { state = departed (h .state) .state; accepted = h .accepted; left = h .left ++ sentBy (departed (h .state) .reply) }

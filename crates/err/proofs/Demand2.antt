@@ -17,9 +17,9 @@ use Rattle.err.specs.declared.Count.{Count}
 use Rattle.err.specs.declared.Count.the-variants.{Refused as CountRefused}
 use Rattle.err.specs.declared.Reply.the-variants.{Departure, Idle}
 use Rattle.err.specs.declared.Sent.{Sent}
-use Rattle.err.proofs.Keeps.{new-closed, new-keeps, every-call-keeps}
+use Rattle.err.proofs.Keeps.{new-closed, new-keeps}
 use Rattle.err.proofs.Departing.{departed-leaves, SendsOrStays, sends, stays, sends-or-stays, idle-stays}
-use Rattle.err.proofs.Chains.{chain-keeps, single-calls-make-departures}
+use Rattle.err.proofs.Chains.{chain-keeps, chain-holds, single-calls-make-departures}
 use Rattle.err.proofs.Queues.{sizes-append, departed-queue, departures-queue, opened-queue, offered-queue}
 use Rattle.err.proofs.Standing.{nobody-waits}
 
@@ -68,16 +68,12 @@ next-balanced h (bursting n list) R f B = by (burstRefusal n list) (CountRefused
         balance-moves f (h .accepted) [] (h .left) (departures n s .sent) (flowAt s f .queue) _ B (append-nil (flowAt s f .queue) ∙ departures-queue n s R f)
     by (suc k) c = balance-moves f (h .accepted) [] (h .left) [] (flowAt s f .queue) _ B (append-nil (flowAt s f .queue))
 
-chain-balanced : (h : History) (calls : List Call) → Rules (h .state) → (f : ℕ) → Balanced h f → Balanced (chain h calls) f
-unfolding chain next
-chain-balanced h [] R f B = B
-chain-balanced h (c ∷ calls) R f B = chain-balanced (next h c) calls (every-call-keeps (h .state) c R) f (next-balanced h c R f B)
-
 -- Since the last reset, what was accepted for a flow is what has departed of it followed by what waits, in order.
 pub nothing-lost : (calls : List Call) (f : ℕ)
     → sizesOf f (chain start calls .accepted) ≡ sizesOf f (packetsOf (chain start calls .left)) ++ flowAt (chain start calls .state) f .queue
 unfolding start sizesOf
-nothing-lost calls f = chain-balanced start calls new-keeps f (sym (ap (λ (y : Flow). y .queue) (new-closed f)))
+nothing-lost calls f =
+    chain-holds (λ (h : History). Balanced h f) (λ h c R B. next-balanced h c R f B) start calls new-keeps (sym (ap (λ (y : Flow). y .queue) (new-closed f)))
 
 -- A departure is of the flow of the open turn or, with none open, of the head of the line; it is that flow's first packet.
 pub departs-the-first : (s : Scheduler) (d : Sent) → Rules s → departed s .reply ≡ Departure d

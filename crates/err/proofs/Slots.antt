@@ -1,7 +1,7 @@
 -- The slots that a flow's packets take, over any list of calls from a new scheduler.
 use Prim.Native.Nat.{ℕ, zero, suc, _+_, _%_}
 use mathlib.Core.Path.{_≡_, refl, sym, ap, _∙_}
-use mathlib.Core.List.{List, [], _∷_, append-nil}
+use mathlib.Core.List.{List, append-nil}
 use native.Mathlib.Omega.{arith}
 use lib.ListN.{length, length-append}
 use Rattle.err.specs.Limits.{queueLimit}
@@ -16,9 +16,10 @@ use Rattle.err.proofs.Choosing.{chosen-has}
 use Rattle.err.proofs.Refusals.{MayOpen, may-open}
 use Rattle.err.proofs.Line.{same-or-other}
 use Rattle.err.proofs.Flows.{at-others, here-now, put-relates}
-use Rattle.err.proofs.Keeps.{new-closed, new-keeps, offered-keeps, departed-keeps, every-call-keeps}
+use Rattle.err.proofs.Keeps.{new-closed, new-keeps, offered-keeps, departed-keeps}
 use Rattle.err.proofs.Departing.{Leaves, departed-leaves, SendsOrStays, sends, stays, sends-or-stays}
 use Rattle.err.proofs.Queues.{sizes-append, offered-queue}
+use Rattle.err.proofs.Chains.{chain-holds}
 
 -- Of a flow's packets n were accepted: the next takes slot n mod 8, and a flow that is not open has had none, so that opening it may begin at slot 0.
 record InTurn (x : Flow) (n : ℕ) : Type 0 where
@@ -115,14 +116,10 @@ next-in-turn h (offering g size) R f T =
 next-in-turn h departing R f T = rw (append-nil (h .accepted)) (departed-in-turn (h .state) R f (acceptedOf h f) T)
 next-in-turn h (bursting k list) R f T = rw (append-nil (h .accepted)) (burst-in-turn (h .state) k list R f (acceptedOf h f) T)
 
-chain-in-turn : (h : History) (calls : List Call) → Rules (h .state) → (f : ℕ) → InTurn (flowAt (h .state) f) (acceptedOf h f)
-    → InTurn (flowAt (chain h calls .state) f) (acceptedOf (chain h calls) f)
-unfolding chain next
-chain-in-turn h [] R f T = T
-chain-in-turn h (c ∷ calls) R f T = chain-in-turn (next h c) calls (every-call-keeps (h .state) c R) f (next-in-turn h c R f T)
-
 -- Packet k of a flow since the last reset, counted from 0, takes slot k mod 8.
 pub slots-in-turn : (calls : List Call) (f : ℕ)
     → nextSlotOf (flowAt (chain start calls .state) f) ≡ length (sizesOf f (chain start calls .accepted)) % queueLimit
 unfolding start sizesOf
-slots-in-turn calls f = chain-in-turn start calls new-keeps f (new-in-turn f) .next-slot
+slots-in-turn calls f =
+    chain-holds (λ (h : History). InTurn (flowAt (h .state) f) (acceptedOf h f)) (λ h c R T. next-in-turn h c R f T) start calls new-keeps (new-in-turn f)
+    .next-slot

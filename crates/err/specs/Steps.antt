@@ -57,7 +57,8 @@ firstSize x = getD (x .queue) 0 0
 abbrev pub nextSlot : ℕ → ℕ
 nextSlot k = (k + 1) % queueLimit
 
--- A flow's first packet since reset takes slot 0; each later one takes the next slot.
+-- The next packet takes the slot behind those of the packets that wait, the first of which lies in the flow's slot. So a flow's first packet since
+-- reset takes slot 0, and each later one the next.
 abbrev pub nextSlotOf : Flow → ℕ
 nextSlotOf x = (x .slot + length (x .queue)) % queueLimit
 
