@@ -4,7 +4,7 @@ ghost use mathlib.Core.Bool.{cond};
 ghost use Prim.Native.Nat.{_<_};
 ghost use lib.Dec.{ltb};
 ghost use Rattle.err.specs.Limits.{flowLimit};
-ghost use Rattle.err.specs.Calls.{openRefusal, offerRefusal, answerOf};
+ghost use Rattle.err.specs.Calls.{openRefusal, offerRefusal};
 ghost use Rattle.order.specs.Encoding.{viewFlow};
 ghost use Rattle.order.specs.Premises.{held, FlowReady, RoundReady, openedParts, heldOffer, offeredParts};
 use crate::FlowCell;

@@ -17,7 +17,9 @@ held-nothing store f k = refl
 
 pub written-nothing : (store : List ℕ) (f k : ℕ) → written store f k [] ≡ store
 unfolding written
-written-nothing store f k = ap (λ (n : ℕ). take (slotStart f k) store ++ drop n store) (omega arith) ∙ take-append-drop (slotStart f k) store
+written-nothing store f k =
+    let same : slotStart f k + 0 ≡ slotStart f k = omega arith in
+    ap (λ (n : ℕ). take (slotStart f k) store ++ drop n store) same ∙ take-append-drop (slotStart f k) store
 
 -- A slot has room for every packet.
 pub slot-in-store : (f k n : ℕ) → f < flowLimit → k < queueLimit → n ≤ sizeLimit → slotStart f k + n ≤ storeLength
