@@ -135,25 +135,24 @@ module _ (r : RoundHeld) (x : FlowCell) (h : MayBegin r x) where
           head = g ∙ head-is r (h .round-ready .form)
 
 -- Which of the model's cases a visit is, by the turn.
-pub turn-law : (r : RoundHeld) (x : FlowCell) (f allowed sent : ℕ) → r .turn ≡ Turn f allowed sent
-    → visit (viewRound r) (viewFlow x) ≡ served (viewRound r) (viewFlow x) f allowed sent
+pub turn-law : (r : RoundHeld) (x : FlowCell) (f allowed sent : ℕ) → r .turn ≡ Turn f allowed sent → {v : VisitHeld}
+    → v ≡ encodeVisit (served (viewRound r) (viewFlow x) f allowed sent) → v ≡ encodeVisit (visit (viewRound r) (viewFlow x))
 unfolding visit visitBy viewRound
-turn-law r x f allowed sent t = ap (λ (u : Serving). visitBy u (viewRound r .line) (viewRound r) (viewFlow x)) t
+turn-law r x f allowed sent t e = e ∙ ap (λ (u : Serving). encodeVisit (visitBy u (viewRound r .line) (viewRound r) (viewFlow x))) (sym t)
 
-pub head-law : (r : RoundHeld) (x : FlowCell) → r .turn ≡ NoTurn
-    → visit (viewRound r) (viewFlow x) ≡ visitBy NoTurn (viewRound r .line) (viewRound r) (viewFlow x)
+pub head-law : (r : RoundHeld) (x : FlowCell) → r .turn ≡ NoTurn → {v : VisitHeld}
+    → v ≡ encodeVisit (visitBy NoTurn (viewRound r .line) (viewRound r) (viewFlow x)) → v ≡ encodeVisit (visit (viewRound r) (viewFlow x))
 unfolding visit viewRound
-head-law r x t = ap (λ (u : Serving). visitBy u (viewRound r .line) (viewRound r) (viewFlow x)) t
+head-law r x t e = e ∙ ap (λ (u : Serving). encodeVisit (visitBy u (viewRound r .line) (viewRound r) (viewFlow x))) (sym t)
 
 -- With no open turn and nobody in line it is idle.
 pub idle-law : (r : RoundHeld) (x : FlowCell) → MayVisit r x → r .turn ≡ NoTurn → r .length ≡ 0
     → record { round = r; flow = x; reply = Idle } ≡ encodeVisit (visit (viewRound r) (viewFlow x))
 unfolding encodeVisit visitBy
 idle-law r x h t e =
-    same-visit (h .round-ready .form) (h .flow-form) refl
-    ∙ ap encodeVisit
-    (sym (head-law r x t
-    ∙ ap (λ (l : List ℕ). visitBy NoTurn l (viewRound r) (viewFlow x)) (none-is-empty (viewRound r .line) (sym (length-is r (h .round-ready .form)) ∙ e))))
+    head-law r x t
+    (same-visit (h .round-ready .form) (h .flow-form) refl
+    ∙ ap (λ (l : List ℕ). encodeVisit (visitBy NoTurn l (viewRound r) (viewFlow x))) (sym (none-is-empty (viewRound r .line) (sym (length-is r (h .round-ready .form)) ∙ e))))
 
 pub whose-turn : (r : RoundHeld) (f allowed sent : ℕ) → r .turn ≡ Turn f allowed sent → f ≡ whose (viewRound r)
 unfolding viewRound

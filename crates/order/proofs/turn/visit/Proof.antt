@@ -1,10 +1,9 @@
 -- One law for each case of the turn.
 use native.Mathlib.Omega.{arith}
 use borrow.Author.Needs.{needs}
-use mathlib.Core.Path.{sym, ap, _∙_}
 use Rattle.order.proofs.BeginLaws.{turn-law, head-law, idle-law}
 use denote.Ref.{now}
-use Rattle.order.specs.Premises.{held, encodeVisit}
+use Rattle.order.specs.Premises.{held}
 use Rattle.order.proofs.turn.visit.Statement.{statement}
 use Rattle.order.proofs.turn.visit.Tie as tie
 
@@ -27,8 +26,9 @@ returns : tie.Need-returns
 returns c =
     let start = c .before .before .before .before .before in
     let turn = c .before .before .before .turn in
-    c .served .ensures ∙ ap encodeVisit
-    (sym (turn-law (held (now (start .args .line)) (start .args .r)) (start .args .x) (turn .given .0 .0) (turn .given .0 .1 .0) (turn .given .0 .1 .1 .0) (turn .given .1)))
+    turn-law (held (now (start .args .line)) (start .args .r)) (start .args .x) (turn .given .0 .0) (turn .given .0 .1 .0) (turn .given .0 .1 .1 .0)
+    (turn .given .1)
+    (c .served .ensures)
 
 returns-2 : tie.Need-returns-2
 returns-2 c =
@@ -40,7 +40,7 @@ returns-3 : tie.Need-returns-3
 returns-3 c =
     let start = c .before .before .before .before .before .before in
     let enum-told = c .before .before .before .before .enum-told in
-    c .begun .ensures ∙ ap encodeVisit (sym (head-law (held (now (start .args .line)) (start .args .r)) (start .args .x) (enum-told .given .1)))
+    head-law (held (now (start .args .line)) (start .args .r)) (start .args .x) (enum-told .given .1) (c .begun .ensures)
 
 pub visit-spec : {M : Type 1} → statement M
 visit-spec =
