@@ -4,7 +4,7 @@ use mathlib.Core.Path.{_≡_, refl, sym, ap, ap₂, _∙_, subst}
 use mathlib.Core.List.{List, [], _∷_, _++_, append-nil}
 use native.Mathlib.Omega.{arith}
 use native.Mathlib.Numerals.{add-one}
-use lib.ListN.{length, set, take, drop, length-set, length-map, take-append-drop}
+use lib.ListN.{length, getD, set, take, drop, length-set, length-map, take-append-drop}
 use lib.Seq.{take-suc-set, drop-set-lt, length-take-le, drop-drop, append-snoc}
 use mathlib.Core.Logic.{⊎-elim}
 use types.Run.{OneOf}
@@ -14,16 +14,19 @@ use mathlib.Core.Bool.{Bool, cond}
 use borrow.Author.Tests.{lt-ltb, le-ltb}
 use Rattle.err.specs.Choose.{ifZero}
 use Rattle.err.specs.Model.{Scheduler}
+use Rattle.err.specs.Steps.{visit, whose}
 use Rattle.err.specs.Calls.{Departures, Burst, departed, departures, andThen, flowNumbers, burst, burstMade}
 use Rattle.err.specs.declared.Count.the-variants.{Made, Refused as CountRefused}
 use Rattle.err.specs.declared.Reply.{Reply}
 use Rattle.err.specs.declared.Reply.the-variants.{Departure, Idle, Refused}
 use Rattle.err.specs.declared.Sent.{Sent}
 use Rattle.err.proofs.Keeps.{departed-keeps}
-use Rattle.order.specs.Encoding.{encode, view, Sound}
+use Rattle.order.specs.Encoding.{viewFlow, encode, view, Sound}
+use Rattle.order.specs.Premises.{roundOf, viewRound, encodeVisit, heldVisit}
 use Rattle.order.specs.Promised.{countedAs, BurstGives}
 use Rattle.order.specs.declared.State.{State}
-use Rattle.order.proofs.StateLaws.{seen-as, sound-of}
+use Rattle.order.specs.declared.Visited.{Visited}
+use Rattle.order.proofs.StateLaws.{noCell, seen-as, sound-of, departed-state, departed-reply}
 
 -- After `made` departures, with the state c and the list as they then are.
 pub record Underway (s : Scheduler) (n : ℕ) (before : List ℕ) (c : State) (made : ℕ) (list : List ℕ) : Type 0 where
@@ -59,7 +62,7 @@ module _ (s : Scheduler) (n : ℕ) (before : List ℕ) (c : State) (made : ℕ) 
   after-sound : Sound (encode (departed (view c) .state))
   after-sound = sound-of (departed (view c) .state) (departed-keeps (view c) (U .sound .rules))
 
-  pub one-more-made : (c′ : State) (d : Sent) → made < n → c′ ≡ encode (departed (view c) .state) → departed (view c) .reply ≡ Departure d
+  one-more-made : (c′ : State) (d : Sent) → made < n → c′ ≡ encode (departed (view c) .state) → departed (view c) .reply ≡ Departure d
       → Underway s n before c′ (made + 1) (set list made (d .flow))
   unfolding andThen
   one-more-made c′ d h e reply =
@@ -144,7 +147,7 @@ no-departure-ends Idle k s more = refl
 no-departure-ends (Refused n) k s more = refl
 
 module _ (s : Scheduler) (n : ℕ) (before : List ℕ) (c : State) (made : ℕ) (list : List ℕ) (U : Underway s n before c made list) where
-  pub stopped : (c′ : State) (r : Reply) → made < n → c′ ≡ encode (departed (view c) .state) → departed (view c) .reply ≡ r
+  stopped : (c′ : State) (r : Reply) → made < n → c′ ≡ encode (departed (view c) .state) → departed (view c) .reply ≡ r
       → OneOf (1 ∷ 2 ∷ []) (tagOf the-type r) → (c₀ : State) → view c₀ ≡ s → BurstGives c₀ n before list (record { state = c′; count = Made made })
   stopped c′ r h e reply kind =
       burst-ends s n before c made list U c′
@@ -161,6 +164,22 @@ module _ (s : Scheduler) (n : ℕ) (before : List ℕ) (c : State) (made : ℕ) 
           ∙ departures-first (n - (made + 1)) (view c)
           ∙ ap (λ (d : Reply). andThen d (departed (view c) .state) (departures (n - (made + 1)) (departed (view c) .state))) reply
           ∙ no-departure-ends r kind (departed (view c) .state) (departures (n - (made + 1)) (departed (view c) .state))
+
+-- The same of what a visit of the flow at `at` gives.
+module _ (s : Scheduler) (n : ℕ) (before : List ℕ) (c : State) (made : ℕ) (list : List ℕ) (U : Underway s n before c made list) (more : made < n)
+    (at : ℕ) (e : at ≡ whose (viewRound (roundOf c))) (v : Visited) (line : List ℕ)
+    (g : heldVisit line v ≡ encodeVisit (visit (viewRound (roundOf c)) (viewFlow (getD (c .flows) at noCell)))) where
+  abbrev visited : State
+  visited = record { flows = set (c .flows) at (v .flow); line = line; round = v .round }
+
+  pub visit-made : (d : Sent) → v .reply ≡ Departure d → Underway s n before visited (made + 1) (set list made (d .flow))
+  visit-made d r =
+      one-more-made s n before c made list U visited d more (departed-state c (U .sound) at e v line g) (sym (departed-reply c (U .sound) at e v line g) ∙ r)
+
+  pub visit-stops : OneOf (1 ∷ 2 ∷ []) (tagOf the-type (v .reply)) → (c₀ : State) → view c₀ ≡ s
+      → BurstGives c₀ n before list (record { state = visited; count = Made made })
+  visit-stops kind =
+      stopped s n before c made list U visited (v .reply) more (departed-state c (U .sound) at e v line g) (sym (departed-reply c (U .sound) at e v line g)) kind
 
 -- A list that is too short is refused, and nothing changes.
 pub burst-refused : (c : State) (n : ℕ) (list : List ℕ) → Sound c → length list < n → BurstGives c n list list (record { state = c; count = CountRefused 9 })

@@ -1,11 +1,10 @@
 -- The departures made so far and those still to be made are all that the burst makes.
 use native.Mathlib.Omega.{arith}
 use borrow.Author.Needs.{needs}
-use Rattle.order.proofs.StateLaws.{round-of-sound, at-in-reach, may-visit, departed-state, departed-reply}
-use Rattle.order.proofs.BurstLaws.{Underway, underway-first, one-more-made, all-made, stopped, burst-refused}
-use mathlib.Core.Path.{refl, sym, _∙_}
+use Rattle.order.proofs.StateLaws.{round-of-sound, at-in-reach, may-visit}
+use Rattle.order.proofs.BurstLaws.{Underway, underway-first, visit-made, all-made, visit-stops, burst-refused}
+use mathlib.Core.Path.{refl}
 use Prim.Native.Nat.{_-_}
-use lib.ListN.{set}
 use Rattle.order.specs.Encoding.{view}
 use Rattle.order.specs.declared.State.{State}
 use denote.Ref.{now}
@@ -86,11 +85,8 @@ returns-2 c =
     let whose = c .before .before .before .before .before .before .whose in
     let visit = c .before .before .before .visit in
     let now-state : State = record { flows = loop .self .flows; line = loop .line; round = loop .round } in
-    stopped (view (start .args .t1)) (start .args .n) (now (start .args .list)) now-state (loop .made) (loop .list) (loop .inv)
-    (record { flows = set (loop .self .flows) (whose .result) (visit .result .flow); line = visit .last .0; round = visit .result .round })
-    (visit .result .reply) (loop-test .taken)
-    (departed-state now-state (loop .inv .sound) (whose .result) (whose .ensures (loop .line) (round-of-sound now-state (loop .inv .sound)) refl) (visit .result) (visit .last .0) (visit .ensures))
-    (sym (departed-reply now-state (loop .inv .sound) (whose .result) (whose .ensures (loop .line) (round-of-sound now-state (loop .inv .sound)) refl) (visit .result) (visit .last .0) (visit .ensures)))
+    visit-stops (view (start .args .t1)) (start .args .n) (now (start .args .list)) now-state (loop .made) (loop .list) (loop .inv) (loop-test .taken)
+    (whose .result) (whose .ensures (loop .line) (round-of-sound now-state (loop .inv .sound)) refl) (visit .result) (visit .last .0) (visit .ensures)
     (c .match .keys2) (start .args .t1) refl
 
 slice-write-list : tie.Need-slice-write-list Inv-loop μ-loop
@@ -117,11 +113,9 @@ loop-again c =
     let visit = c .before .before .before .before .before .visit in
     let reply = c .before .reply in
     let now-state : State = record { flows = loop .self .flows; line = loop .line; round = loop .round } in
-    one-more-made (view (start .args .t1)) (start .args .n) (now (start .args .list)) now-state (loop .made) (loop .list) (loop .inv)
-    (record { flows = set (loop .self .flows) (whose .result) (visit .result .flow); line = visit .last .0; round = visit .result .round })
-    (reply .given .0 .0) (loop-test .taken)
-    (departed-state now-state (loop .inv .sound) (whose .result) (whose .ensures (loop .line) (round-of-sound now-state (loop .inv .sound)) refl) (visit .result) (visit .last .0) (visit .ensures))
-    (sym (departed-reply now-state (loop .inv .sound) (whose .result) (whose .ensures (loop .line) (round-of-sound now-state (loop .inv .sound)) refl) (visit .result) (visit .last .0) (visit .ensures)) ∙ reply .given .1)
+    visit-made (view (start .args .t1)) (start .args .n) (now (start .args .list)) now-state (loop .made) (loop .list) (loop .inv) (loop-test .taken)
+    (whose .result) (whose .ensures (loop .line) (round-of-sound now-state (loop .inv .sound)) refl) (visit .result) (visit .last .0) (visit .ensures)
+    (reply .given .0 .0) (reply .given .1)
 
 same-length-2 : tie.Need-same-length-2 Inv-loop μ-loop
 same-length-2 c = c .before .loop .inv .same-length
