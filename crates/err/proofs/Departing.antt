@@ -1,5 +1,5 @@
 -- What a departure call does to the flow whose packet leaves and to the others; where none leaves, nothing changes.
-use Prim.Native.Nat.{ℕ, zero, suc, _+_, _≤_, _<_}
+use Prim.Native.Nat.{ℕ, _+_, _≤_, _<_}
 use mathlib.Core.Path.{_≡_, refl, sym, ap, _∙_, subst}
 use mathlib.Core.List.{List, [], _∷_}
 use mathlib.Core.Bool.{Bool, true, false}
@@ -8,7 +8,7 @@ use lib.ListN.{length, getD, drop, length-drop}
 use Rattle.err.specs.Limits.{flowLimit}
 use Rattle.err.specs.Model.{Flow, Round, Scheduler, flowAt}
 use Rattle.err.specs.Steps.{firstSize, firstLeft, nextSlot, excessKept, turnEnds, turnOpened, roundStarted, surplusCleared, headAllowance, settled, served, visitBy, visit, whose}
-use Rattle.err.specs.Calls.{put, nextVisit, departed, departures, andThen}
+use Rattle.err.specs.Calls.{put, nextVisit, departed, departures}
 use Rattle.err.specs.Rules.{Rules}
 use Rattle.err.specs.declared.Sent.{Sent}
 use Rattle.err.specs.declared.Reply.{Reply}
@@ -17,6 +17,7 @@ use Rattle.err.specs.declared.Serving.{Serving}
 use Rattle.err.specs.declared.Serving.the-variants.{NoTurn, Turn}
 use Rattle.err.proofs.Parts.{schedulerMadeOf}
 use Rattle.err.proofs.Flows.{at-put, at-others, put-back, put-relates, first-and-rest}
+use Rattle.err.proofs.Keeps.{departures-hold}
 use Rattle.err.proofs.Standing.{TurnFacts, HeadFacts, turn-facts, head-facts}
 
 -- From s the packet of d leaves, and t is left: it was the first of the queue of the flow whose turn it was, and that flow's slot moves on to the next
@@ -166,15 +167,5 @@ departed-adds-none s =
     put-relates (λ x y. length (y .queue) ≤ length (x .queue)) (λ x. omega arith) (s .flows) (whose (s .round)) (nextVisit s .flow) (visit-adds-none s)
 
 pub departures-add-none : (n : ℕ) (s : Scheduler) (f : ℕ) → length (flowAt (departures n s .state) f .queue) ≤ length (flowAt s f .queue)
-unfolding departures andThen
-departures-add-none zero s f = omega arith
-departures-add-none (suc n) s f = go (departed s .reply) (departures-add-none n (departed s .state) f)
-  where
-    t : Scheduler
-    t = departed s .state
-
-    go : (reply : Reply) → length (flowAt (departures n t .state) f .queue) ≤ length (flowAt t f .queue)
-        → length (flowAt (andThen reply t (departures n t) .state) f .queue) ≤ length (flowAt s f .queue)
-    go (Departure d) more = omega (arith, departed-adds-none s f)
-    go Idle more = departed-adds-none s f
-    go (Refused k) more = departed-adds-none s f
+departures-add-none n s f =
+    departures-hold (λ (t : Scheduler). length (flowAt t f .queue) ≤ length (flowAt s f .queue)) (λ t h. omega (arith, departed-adds-none t f)) n s (omega arith)

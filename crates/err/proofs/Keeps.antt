@@ -11,16 +11,14 @@ use borrow.Author.Tests.{leb-true, leb-false}
 use Rattle.err.specs.Limits.{flowLimit, markLimit}
 use Rattle.err.specs.Model.{Flow, Round, Scheduler, flowAt, closedFlow, newScheduler}
 use Rattle.err.specs.Steps.{packetJoined, flowLined, roundStarted, turnOpened, surplusCleared, firstLeft, turnKept, turnClosed, excessKept, settled, served, visitBy, visit, allowance}
-use Rattle.err.specs.Calls.{put, openFlow, opened, offered, departed, departures, andThen, burst, burstMade, unlessRefused, openRefusal, offerRefusal, burstRefusal}
+use Rattle.err.specs.Calls.{Burst, put, openFlow, opened, offered, departed, departures, andThen, burst, burstMade, unlessRefused, openRefusal, offerRefusal, burstRefusal}
 use Rattle.err.specs.Rules.{count, activity, FlowRules, LineRules, TurnRules, RoundRules, Rules}
 use Rattle.err.specs.declared.Reply.{Reply}
 use Rattle.err.specs.declared.Reply.the-variants.{Departure, Idle, Refused}
 use Rattle.err.specs.declared.Serving.{Serving}
 use Rattle.err.specs.declared.Serving.the-variants.{NoTurn, Turn}
-use Rattle.err.specs.Choose.{ifEmpty, ifZero}
+use Rattle.err.specs.Choose.{ifEmpty}
 use Rattle.err.specs.Chain.{Call, resetting, opening, offering, departing, bursting, after}
-use Rattle.err.specs.declared.Count.{Count}
-use Rattle.err.specs.declared.Count.the-variants.{Refused as CountRefused}
 use Rattle.err.proofs.Choosing.{chosen-has}
 use Rattle.err.proofs.Parts.{flowMadeOf, roundMadeOf}
 use Rattle.err.proofs.Refusals.{MayOpen, may-open, MayOffer, may-offer}
@@ -304,25 +302,29 @@ pub departed-keeps : (s : Scheduler) → Rules s → Rules (departed s .state)
 departed-keeps s R =
     departed-keeps-parts (s .flows) (s .round .line) (s .round .visits) (s .round .mark) (s .round .running) (s .round .turn) R
 
+-- What every departure call keeps of a state, any number of departures keep, and so does a burst.
+module _ (P : Scheduler → Type 0) (keeps : (s : Scheduler) → P s → P (departed s .state)) where
+  pub departures-hold : (n : ℕ) (s : Scheduler) → P s → P (departures n s .state)
+  unfolding departures andThen
+  departures-hold zero s p = p
+  departures-hold (suc n) s p = by (departed s .reply) (keeps s p) (departures-hold n (departed s .state) (keeps s p))
+    where
+      by : (reply : Reply) → P (departed s .state) → P (departures n (departed s .state) .state)
+          → P (andThen reply (departed s .state) (departures n (departed s .state)) .state)
+      by (Departure d) now then = then
+      by Idle now then = now
+      by (Refused k) now then = now
+
+  pub burst-holds : (s : Scheduler) (n : ℕ) (list : List ℕ) → P s → P (burst s n list .state)
+  unfolding burst burstMade
+  burst-holds s n list p =
+      chosen-has (λ (b : Burst). P (b .state)) (burstRefusal n list) (burstMade list (departures n s)) _ (λ e. departures-hold n s p) p
+
 pub departures-keep : (n : ℕ) (s : Scheduler) → Rules s → Rules (departures n s .state)
-unfolding departures andThen
-departures-keep zero s R = R
-departures-keep (suc n) s R =
-    go (departed s .reply) (departed-keeps s R) (departures-keep n (departed s .state) (departed-keeps s R))
-  where
-    go : (reply : Reply) → Rules (departed s .state) → Rules (departures n (departed s .state) .state)
-        → Rules (andThen reply (departed s .state) (departures n (departed s .state)) .state)
-    go (Departure d) now then = then
-    go Idle now then = now
-    go (Refused k) now then = now
+departures-keep = departures-hold Rules departed-keeps
 
 pub burst-keeps : (s : Scheduler) (n : ℕ) (list : List ℕ) → Rules s → Rules (burst s n list .state)
-unfolding burst burstMade
-burst-keeps s n list R = go (burstRefusal n list) (CountRefused (burstRefusal n list))
-  where
-    go : (k : ℕ) (c : Count) → Rules (ifZero k (burstMade list (departures n s)) (record { state = s; list = list; reply = c }) .state)
-    go zero c = departures-keep n s R
-    go (suc k) c = R
+burst-keeps = burst-holds Rules departed-keeps
 
 -- Whatever the call, the state that it gives back keeps the rules.
 pub every-call-keeps : (s : Scheduler) (c : Call) → Rules s → Rules (after s c)

@@ -1,5 +1,5 @@
 -- The slots that a flow's packets take, over any list of calls from a new scheduler.
-use Prim.Native.Nat.{ℕ, zero, suc, _+_, _%_}
+use Prim.Native.Nat.{ℕ, _+_, _%_}
 use mathlib.Core.Path.{_≡_, refl, sym, ap, _∙_}
 use mathlib.Core.List.{List, append-nil}
 use native.Mathlib.Omega.{arith}
@@ -7,16 +7,14 @@ use lib.ListN.{length, length-append}
 use Rattle.err.specs.Limits.{queueLimit}
 use Rattle.err.specs.Model.{Flow, Scheduler, flowAt, newScheduler}
 use Rattle.err.specs.Steps.{nextSlotOf, packetJoined}
-use Rattle.err.specs.Calls.{put, openFlow, opened, offered, departed, departures, andThen, burst, burstMade, unlessRefused, openRefusal, offerRefusal, burstRefusal}
+use Rattle.err.specs.Calls.{put, openFlow, opened, offered, departed, burst, unlessRefused, openRefusal, offerRefusal}
 use Rattle.err.specs.Rules.{Rules}
 use Rattle.err.specs.Chain.{Call, resetting, opening, offering, departing, bursting, after, accepting, History, start, next, chain, Packet, sizesOf}
-use Rattle.err.specs.declared.Reply.{Reply}
-use Rattle.err.specs.declared.Reply.the-variants.{Departure, Idle, Refused}
 use Rattle.err.proofs.Choosing.{chosen-has}
 use Rattle.err.proofs.Refusals.{MayOpen, may-open}
 use Rattle.err.proofs.Line.{same-or-other}
 use Rattle.err.proofs.Flows.{at-others, here-now, put-relates}
-use Rattle.err.proofs.Keeps.{new-closed, new-keeps, offered-keeps, departed-keeps}
+use Rattle.err.proofs.Keeps.{new-closed, new-keeps, offered-keeps, departed-keeps, burst-holds}
 use Rattle.err.proofs.Departing.{Leaves, departed-leaves, SendsOrStays, sends, stays, sends-or-stays}
 use Rattle.err.proofs.Queues.{sizes-append, offered-queue}
 use Rattle.err.proofs.Chains.{chain-holds}
@@ -80,25 +78,9 @@ departed-in-turn s R f n T = by (sends-or-stays s)
         T
     by (stays e same t l) = rw same T
 
-departures-in-turn : (k : ℕ) (s : Scheduler) → Rules s → (f n : ℕ) → InTurn (flowAt s f) n → InTurn (flowAt (departures k s .state) f) n
-unfolding departures andThen
-departures-in-turn zero s R f n T = T
-departures-in-turn (suc k) s R f n T =
-    by (departed s .reply) (departed-in-turn s R f n T) (departures-in-turn k (departed s .state) (departed-keeps s R) f n (departed-in-turn s R f n T))
-  where
-    t : Scheduler
-    t = departed s .state
-
-    by : (reply : Reply) → InTurn (flowAt t f) n → InTurn (flowAt (departures k t .state) f) n
-        → InTurn (flowAt (andThen reply t (departures k t) .state) f) n
-    by (Departure d) now then = then
-    by Idle now then = now
-    by (Refused j) now then = now
-
 burst-in-turn : (s : Scheduler) (k : ℕ) (list : List ℕ) → Rules s → (f n : ℕ) → InTurn (flowAt s f) n → InTurn (flowAt (burst s k list .state) f) n
-unfolding burst burstMade
 burst-in-turn s k list R f n T =
-    chosen-has (λ b. InTurn (flowAt (b .state) f) n) (burstRefusal k list) (burstMade list (departures k s)) _ (λ e. departures-in-turn k s R f n T) T
+    burst-holds (λ (t : Scheduler). Rules t × InTurn (flowAt t f) n) (λ t p. (departed-keeps t (p .0), departed-in-turn t (p .0) f n (p .1))) s k list (R, T) .1
 
 -- The packets of flow f that were accepted since the last reset.
 abbrev acceptedOf : History → ℕ → ℕ

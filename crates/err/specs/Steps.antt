@@ -12,6 +12,15 @@ use Rattle.err.specs.declared.Serving.the-variants.{NoTurn, Turn}
 use Rattle.err.specs.declared.Reply.{Reply}
 use Rattle.err.specs.declared.Reply.the-variants.{Departure, Idle}
 
+-- Where bytes lie: a flow's slots follow each other, the last being followed by slot 0.
+abbrev pub nextSlot : ℕ → ℕ
+nextSlot k = (k + 1) % queueLimit
+
+-- The next packet takes the slot behind those of the packets that wait, the first of which lies in the flow's slot. So a flow's first packet since
+-- reset takes slot 0, and each later one the next.
+abbrev pub nextSlotOf : Flow → ℕ
+nextSlotOf x = (x .slot + length (x .queue)) % queueLimit
+
 -- Step 1. An accepted packet joins the end of its flow's queue. If the flow was not active, it goes to the end of the line with surplus 0.
 unfoldable pub packetJoined : Flow → ℕ → Flow
 packetJoined x size = record { weight = x .weight; surplus = ifEmpty (x .queue) 0 (x .surplus); slot = x .slot; queue = x .queue ++ (size ∷ []) }
@@ -52,15 +61,6 @@ surplusCleared x = record { weight = x .weight; surplus = 0; slot = x .slot; que
 -- Step 3. The first packet of the turn's flow leaves.
 abbrev pub firstSize : Flow → ℕ
 firstSize x = getD (x .queue) 0 0
-
--- A flow's slots follow each other, the last being followed by slot 0.
-abbrev pub nextSlot : ℕ → ℕ
-nextSlot k = (k + 1) % queueLimit
-
--- The next packet takes the slot behind those of the packets that wait, the first of which lies in the flow's slot. So a flow's first packet since
--- reset takes slot 0, and each later one the next.
-abbrev pub nextSlotOf : Flow → ℕ
-nextSlotOf x = (x .slot + length (x .queue)) % queueLimit
 
 unfoldable pub firstLeft : Flow → Flow
 firstLeft x = record { weight = x .weight; surplus = x .surplus; slot = nextSlot (x .slot); queue = drop 1 (x .queue) }
