@@ -5,9 +5,9 @@ use mathlib.Core.Path.{_≡_, refl, ap, _∙_}
 use mathlib.Core.List.{List}
 use native.Mathlib.Omega.{arith}
 use borrow.Author.Tests.{eq-eqb, ne-eqb}
-use Rattle.err.specs.Model.{Flow}
-use Rattle.err.specs.declared.Sent.{Sent}
-use Rattle.err.proofs.Line.{same-or-other}
+use Rattle.model.specs.Model.{Flow}
+use Rattle.model.specs.declared.Sent.{Sent}
+use Rattle.model.proofs.Line.{same-or-other}
 use Rattle.account.specs.Stretch.{sumOf, bytes, onePlusMark}
 use Rattle.account.proofs.Circle.{Circle, Move, round-starts, turn-opens, turn-stays-open, turn-ends, flow-runs-empty, flow-joins, packet-joins, flow-opens, Run, stands, moves, follows, Waits, onAccount, weights-same, surpluses-same}
 use Rattle.account.proofs.Sums.{sum-append}

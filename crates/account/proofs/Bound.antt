@@ -11,12 +11,12 @@ use native.Mathlib.Decide.{ℕ-discrete}
 use native.Mathlib.Nat.{mul-le-mul-left, zero-mul, one-mul}
 use lib.ListN.{take, drop}
 use borrow.Author.Tests.{eq-eqb, ne-eqb}
-use Rattle.err.specs.Model.{Flow, Round, Scheduler, flowAt}
-use Rattle.err.specs.Rules.{count, RoundRules, Rules}
-use Rattle.err.specs.declared.Serving.{Serving}
-use Rattle.err.specs.declared.Serving.the-variants.{NoTurn, Turn}
-use Rattle.err.proofs.Counts.{count-append, count-parts, count-behind, count-self, count-other}
-use Rattle.err.proofs.Line.{same-or-other, waiting-is-active}
+use Rattle.model.specs.Model.{Flow, Round, Scheduler, flowAt}
+use Rattle.model.specs.Rules.{count, RoundRules, Rules}
+use Rattle.model.specs.declared.Serving.{Serving}
+use Rattle.model.specs.declared.Serving.the-variants.{NoTurn, Turn}
+use Rattle.model.proofs.Counts.{count-append, count-parts, count-behind, count-self, count-other}
+use Rattle.model.proofs.Line.{same-or-other, waiting-is-active}
 use Rattle.account.proofs.Circle.{Circle, circle, circleOf, visitsInLine, inTurn, thisRound, onAccount, toCome, Waits}
 use Rattle.account.proofs.Order.{leads, order, leader-in-front}
 use Rattle.account.proofs.Within.{Within}

@@ -4,20 +4,20 @@ use Prim.Native.Nat.{ℕ, zero, suc}
 use mathlib.Core.Path.{_≡_, refl, sym, ap, ap₂, _∙_, subst}
 use mathlib.Core.List.{List, [], _∷_, _++_, append-nil, append-assoc}
 use lib.ListN.{replicate}
-use Rattle.err.specs.Choose.{ifZero}
-use Rattle.err.specs.Model.{Scheduler}
-use Rattle.err.specs.Calls.{departed, departures, andThen, burst, burstMade, burstRefusal}
-use Rattle.err.specs.Replies.{sentBy}
-use Rattle.err.specs.Chain.{Call, resetting, opening, offering, departing, bursting, after, accepting, leaving, Packet, History, next, chain}
-use Rattle.err.specs.declared.Sent.{Sent}
-use Rattle.err.specs.declared.Reply.{Reply}
-use Rattle.err.specs.declared.Reply.the-variants.{Departure, Idle, Refused}
-use Rattle.err.specs.declared.Serving.{Serving}
-use Rattle.err.specs.declared.Serving.the-variants.{NoTurn, Turn}
-use Rattle.err.specs.declared.Count.{Count}
-use Rattle.err.specs.declared.Count.the-variants.{Refused as CountRefused}
-use Rattle.err.proofs.Departing.{SendsOrStays, sends, stays, sends-or-stays}
-use Rattle.err.proofs.Chains.{chain-append, single-calls-make-departures}
+use Rattle.model.specs.Choose.{ifZero}
+use Rattle.model.specs.Model.{Scheduler}
+use Rattle.model.specs.Calls.{departed, departures, andThen, burst, burstMade, burstRefusal}
+use Rattle.model.specs.Replies.{sentBy}
+use Rattle.model.specs.Chain.{Call, resetting, opening, offering, departing, bursting, after, accepting, leaving, Packet, History, next, chain}
+use Rattle.model.specs.declared.Sent.{Sent}
+use Rattle.model.specs.declared.Reply.{Reply}
+use Rattle.model.specs.declared.Reply.the-variants.{Departure, Idle, Refused}
+use Rattle.model.specs.declared.Serving.{Serving}
+use Rattle.model.specs.declared.Serving.the-variants.{NoTurn, Turn}
+use Rattle.model.specs.declared.Count.{Count}
+use Rattle.model.specs.declared.Count.the-variants.{Refused as CountRefused}
+use Rattle.model.proofs.Departing.{SendsOrStays, sends, stays, sends-or-stays}
+use Rattle.model.proofs.Chains.{chain-append, single-calls-make-departures}
 use Rattle.account.specs.Stretch.{Waiting, WaitingAfterEvery, sentIn, turnThen, turnsOf, completing, turnsIn, singly, oneByOne}
 use Rattle.account.proofs.Runs.{waited-before-all}
 

@@ -7,13 +7,13 @@ use mathlib.Core.List.{List, [], _∷_, _++_}
 use mathlib.Core.Bool.{cond}
 use lib.ListN.{length, take, drop}
 use lib.Dec.{eqb}
-use Rattle.err.specs.Model.{Flow, Scheduler, flowAt}
-use Rattle.err.specs.Steps.{allowance}
-use Rattle.err.specs.Rules.{count, activity}
-use Rattle.err.specs.declared.Sent.{Sent}
-use Rattle.err.specs.declared.Serving.{Serving}
-use Rattle.err.specs.declared.Serving.the-variants.{NoTurn, Turn}
-use Rattle.err.proofs.Line.{OnlyAt, same-or-other}
+use Rattle.model.specs.Model.{Flow, Scheduler, flowAt}
+use Rattle.model.specs.Steps.{allowance}
+use Rattle.model.specs.Rules.{count, activity}
+use Rattle.model.specs.declared.Sent.{Sent}
+use Rattle.model.specs.declared.Serving.{Serving}
+use Rattle.model.specs.declared.Serving.the-variants.{NoTurn, Turn}
+use Rattle.model.proofs.Line.{OnlyAt, same-or-other}
 
 pub record Circle : Type 0 where
   pub flow : ℕ → Flow

@@ -9,23 +9,23 @@ use lib.ListN.{length, take, drop}
 use lib.Seq.{take-append-le, drop-append-le, take-length, drop-length}
 use lib.Dec.{leb}
 use borrow.Author.Tests.{leb-true}
-use Rattle.err.specs.Limits.{flowLimit}
-use Rattle.err.specs.Model.{Flow, Round, Scheduler, flowAt}
-use Rattle.err.specs.Steps.{roundStarted, turnOpened, surplusCleared, firstLeft, turnKept, raised, turnClosed, excessKept, nextSlot, Visit, settled, served, visitBy, visit, allowance}
-use Rattle.err.specs.Calls.{put, departed}
-use Rattle.err.specs.Rules.{Sizes, count, LineRules, TurnRules, RoundRules, Rules}
-use Rattle.err.specs.Replies.{sentBy}
-use Rattle.err.specs.declared.Reply.the-variants.{Departure}
-use Rattle.err.specs.declared.Serving.{Serving}
-use Rattle.err.specs.declared.Serving.the-variants.{NoTurn, Turn}
-use Rattle.err.proofs.Counts.{count-head}
-use Rattle.err.proofs.Rounding.{raised-at-most}
-use Rattle.err.proofs.Line.{OnlyAt}
-use Rattle.err.proofs.Line.{round-starts as rules-when-a-round-starts}
-use Rattle.err.proofs.Keeps.{weighs, standing-waits}
-use Rattle.err.proofs.Flows.{at-others, put-back, waiting-in-reach, first-in-range, put-relates, here-now}
-use Rattle.err.proofs.Parts.{flowMadeOf, roundMadeOf, schedulerMadeOf}
-use Rattle.err.proofs.Departing.{departed-adds-none}
+use Rattle.model.specs.Limits.{flowLimit}
+use Rattle.model.specs.Model.{Flow, Round, Scheduler, flowAt}
+use Rattle.model.specs.Steps.{roundStarted, turnOpened, surplusCleared, firstLeft, turnKept, raised, turnClosed, excessKept, nextSlot, Visit, settled, served, visitBy, visit, allowance}
+use Rattle.model.specs.Calls.{put, departed}
+use Rattle.model.specs.Rules.{Sizes, count, LineRules, TurnRules, RoundRules, Rules}
+use Rattle.model.specs.Replies.{sentBy}
+use Rattle.model.specs.declared.Reply.the-variants.{Departure}
+use Rattle.model.specs.declared.Serving.{Serving}
+use Rattle.model.specs.declared.Serving.the-variants.{NoTurn, Turn}
+use Rattle.model.proofs.Counts.{count-head}
+use Rattle.model.proofs.Rounding.{raised-at-most}
+use Rattle.model.proofs.Line.{OnlyAt}
+use Rattle.model.proofs.Line.{round-starts as rules-when-a-round-starts}
+use Rattle.model.proofs.Keeps.{weighs, standing-waits}
+use Rattle.model.proofs.Flows.{at-others, put-back, waiting-in-reach, first-in-range, put-relates, here-now}
+use Rattle.model.proofs.Parts.{flowMadeOf, roundMadeOf, schedulerMadeOf}
+use Rattle.model.proofs.Departing.{departed-adds-none}
 use Rattle.account.specs.Stretch.{turnThen, turnsOf}
 use Rattle.account.proofs.Circle.{Circle, circle, circleOf, round-starts, turn-opens, turn-stays-open, turn-ends, flow-runs-empty, Run, stands, moves, follows, Renewed, Waits, Backwards, departure}
 

@@ -6,9 +6,9 @@ use mathlib.Core.Bool.{Bool, true, false, cond}
 use native.Mathlib.Omega.{arith}
 use lib.Dec.{eqb}
 use borrow.Author.Tests.{ne-eqb}
-use Rattle.err.specs.Model.{Flow}
-use Rattle.err.specs.Rules.{count}
-use Rattle.err.specs.declared.Sent.{Sent}
+use Rattle.model.specs.Model.{Flow}
+use Rattle.model.specs.Rules.{count}
+use Rattle.model.specs.declared.Sent.{Sent}
 use Rattle.account.proofs.Circle.{Circle, Move, round-starts, turn-opens, turn-stays-open, turn-ends, flow-runs-empty, flow-joins, packet-joins, flow-opens, Run, stands, moves, follows, Waits, thisRound}
 
 -- Whether j stands before i.

@@ -5,9 +5,9 @@ use mathlib.Core.Path.{_≡_, refl, sym, ap, _∙_, subst₂}
 use mathlib.Core.List.{List}
 use mathlib.Core.Bool.{Bool, true, false}
 use native.Mathlib.Omega.{arith}
-use Rattle.err.specs.Rules.{count}
-use Rattle.err.specs.declared.Sent.{Sent}
-use Rattle.err.proofs.Counts.{count-append}
+use Rattle.model.specs.Rules.{count}
+use Rattle.model.specs.declared.Sent.{Sent}
+use Rattle.model.proofs.Counts.{count-append}
 use Rattle.account.specs.Stretch.{sumOf, bytes, onePlusMark, DifferByAtMost}
 use Rattle.account.proofs.Circle.{Circle, Run, onAccount, toCome, thisRound}
 use Rattle.account.proofs.Account.{Balanced, run-keeps-weight, run-balances}

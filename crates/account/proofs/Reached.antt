@@ -1,12 +1,12 @@
 -- The numbers of the closed stretch, by computation.
 use mathlib.Core.Path.{refl, sym, subst}
 use native.Mathlib.Omega.{arith}
-use Rattle.err.specs.Model.{newScheduler}
-use Rattle.err.specs.declared.Serving.{Serving}
-use Rattle.err.specs.declared.Serving.the-variants.{NoTurn, Turn}
-use Rattle.err.specs.Steps.{packetJoined, flowLined, roundStarted, turnOpened, surplusCleared, firstLeft, turnKept, raised, turnClosed, excessKept, settled, served, visitBy, visit}
-use Rattle.err.specs.Calls.{put, unlessRefused, opened, offered, departed, andThen, departures, burstMade, burst}
-use Rattle.err.specs.Chain.{after, leaving, accepting, start, next, chain}
+use Rattle.model.specs.Model.{newScheduler}
+use Rattle.model.specs.declared.Serving.{Serving}
+use Rattle.model.specs.declared.Serving.the-variants.{NoTurn, Turn}
+use Rattle.model.specs.Steps.{packetJoined, flowLined, roundStarted, turnOpened, surplusCleared, firstLeft, turnKept, raised, turnClosed, excessKept, settled, served, visitBy, visit}
+use Rattle.model.specs.Calls.{put, unlessRefused, opened, offered, departed, andThen, departures, burstMade, burst}
+use Rattle.model.specs.Chain.{after, leaving, accepting, start, next, chain}
 use Rattle.account.specs.Reaching.{reaching, Reaches}
 use Rattle.account.specs.Stretch.{WaitingAfterEvery, sentIn, turnsIn, turnThen, turnsOf, completing, sumOf, largest}
 

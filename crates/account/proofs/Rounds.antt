@@ -6,9 +6,9 @@ use mathlib.Core.List.{List}
 use mathlib.Core.Bool.{Bool, true, false, cond}
 use native.Mathlib.Omega.{arith}
 use lib.Dec.{eqb}
-use Rattle.err.specs.Rules.{count}
-use Rattle.err.specs.declared.Sent.{Sent}
-use Rattle.err.proofs.Line.{waiting-is-active}
+use Rattle.model.specs.Rules.{count}
+use Rattle.model.specs.declared.Sent.{Sent}
+use Rattle.model.proofs.Line.{waiting-is-active}
 use Rattle.account.specs.Stretch.{sumOf, onePlusMark}
 use Rattle.account.proofs.Circle.{Circle, Move, round-starts, turn-opens, turn-stays-open, turn-ends, flow-runs-empty, flow-joins, packet-joins, flow-opens, Run, stands, moves, follows, toCome}
 use Rattle.account.proofs.Sums.{sum-append}

@@ -5,27 +5,27 @@ use mathlib.Core.List.{List, [], _∷_, _++_}
 use native.Mathlib.Omega.{arith}
 use lib.ListN.{length}
 use lib.Seq.{take-append-le, drop-append-le}
-use Rattle.err.specs.Limits.{flowLimit}
-use Rattle.err.specs.Choose.{ifZero}
-use Rattle.err.specs.Model.{Flow, Round, Scheduler, flowAt}
-use Rattle.err.specs.Steps.{packetJoined, flowLined}
-use Rattle.err.specs.Calls.{put, openFlow, opened, offered, departed, departures, andThen, burst, burstMade, unlessRefused, openRefusal, offerRefusal, burstRefusal}
-use Rattle.err.specs.Rules.{RoundRules, Rules}
-use Rattle.err.specs.Replies.{sentBy}
-use Rattle.err.specs.Chain.{Call, resetting, opening, offering, departing, bursting, after, leaving}
-use Rattle.err.specs.declared.Sent.{Sent}
-use Rattle.err.specs.declared.Reply.{Reply}
-use Rattle.err.specs.declared.Reply.the-variants.{Departure, Idle, Refused}
-use Rattle.err.specs.declared.Serving.{Serving}
-use Rattle.err.specs.declared.Serving.the-variants.{NoTurn, Turn}
-use Rattle.err.specs.declared.Count.{Count}
-use Rattle.err.specs.declared.Count.the-variants.{Refused as CountRefused}
-use Rattle.err.proofs.Refusals.{may-open, may-offer}
-use Rattle.err.proofs.Flows.{at-others, here-now}
-use Rattle.err.proofs.Keeps.{departed-keeps}
-use Rattle.err.proofs.Parts.{flowMadeOf}
-use Rattle.err.proofs.Departing.{departures-add-none}
-use Rattle.err.proofs.Choosing.{chosen-has}
+use Rattle.model.specs.Limits.{flowLimit}
+use Rattle.model.specs.Choose.{ifZero}
+use Rattle.model.specs.Model.{Flow, Round, Scheduler, flowAt}
+use Rattle.model.specs.Steps.{packetJoined, flowLined}
+use Rattle.model.specs.Calls.{put, openFlow, opened, offered, departed, departures, andThen, burst, burstMade, unlessRefused, openRefusal, offerRefusal, burstRefusal}
+use Rattle.model.specs.Rules.{RoundRules, Rules}
+use Rattle.model.specs.Replies.{sentBy}
+use Rattle.model.specs.Chain.{Call, resetting, opening, offering, departing, bursting, after, leaving}
+use Rattle.model.specs.declared.Sent.{Sent}
+use Rattle.model.specs.declared.Reply.{Reply}
+use Rattle.model.specs.declared.Reply.the-variants.{Departure, Idle, Refused}
+use Rattle.model.specs.declared.Serving.{Serving}
+use Rattle.model.specs.declared.Serving.the-variants.{NoTurn, Turn}
+use Rattle.model.specs.declared.Count.{Count}
+use Rattle.model.specs.declared.Count.the-variants.{Refused as CountRefused}
+use Rattle.model.proofs.Refusals.{may-open, may-offer}
+use Rattle.model.proofs.Flows.{at-others, here-now}
+use Rattle.model.proofs.Keeps.{departed-keeps}
+use Rattle.model.proofs.Parts.{flowMadeOf}
+use Rattle.model.proofs.Departing.{departures-add-none}
+use Rattle.model.proofs.Choosing.{chosen-has}
 use Rattle.account.specs.Stretch.{turnThen, turnsOf, completing}
 use Rattle.account.proofs.Circle.{circleOf, visitsInLine, flow-joins, packet-joins, flow-opens, Run, stands, moves, follows, Renewed, Waits, Backwards}
 use Rattle.account.proofs.Departure.{renewed, departure-runs}

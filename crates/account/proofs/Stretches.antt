@@ -4,11 +4,11 @@ use mathlib.Core.Path.{_≡_, refl, sym, ap, _∙_, subst}
 use mathlib.Core.List.{List, [], _∷_, _++_, append-nil, append-assoc}
 use native.Mathlib.Omega.{arith}
 use lib.ListN.{length}
-use Rattle.err.specs.Model.{Flow, Scheduler, flowAt, newScheduler}
-use Rattle.err.specs.Rules.{Rules}
-use Rattle.err.specs.Chain.{Call, resetting, opening, offering, departing, bursting, after, leaving, sinceReset, History, next, chain}
-use Rattle.err.specs.declared.Sent.{Sent}
-use Rattle.err.proofs.Keeps.{every-call-keeps, new-closed}
+use Rattle.model.specs.Model.{Flow, Scheduler, flowAt, newScheduler}
+use Rattle.model.specs.Rules.{Rules}
+use Rattle.model.specs.Chain.{Call, resetting, opening, offering, departing, bursting, after, leaving, sinceReset, History, next, chain}
+use Rattle.model.specs.declared.Sent.{Sent}
+use Rattle.model.proofs.Keeps.{every-call-keeps, new-closed}
 use Rattle.account.specs.Stretch.{WaitingAfterEvery, WithoutReset, sentIn, turnsIn, largest}
 use Rattle.account.proofs.Circle.{circleOf, Run, stands, follows, Waits, Backwards}
 use Rattle.account.proofs.Runs.{call-runs}

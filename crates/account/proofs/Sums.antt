@@ -5,7 +5,7 @@ use mathlib.Core.List.{List, [], _∷_, _++_}
 use mathlib.Core.Bool.{Bool, true, false, cond}
 use native.Mathlib.Omega.{arith}
 use lib.Dec.{eqb}
-use Rattle.err.specs.declared.Sent.{Sent}
+use Rattle.model.specs.declared.Sent.{Sent}
 use Rattle.account.specs.Stretch.{sumOf, bytes, largest}
 
 pub sum-append : (f : ℕ) (value : Sent → ℕ) (a b : List Sent) → sumOf f value (a ++ b) ≡ sumOf f value a + sumOf f value b

@@ -7,13 +7,13 @@ use native.Mathlib.Decide.{ℕ-discrete}
 use native.Mathlib.Nat.{mul-le-mul-left, le-add-right, le-mul-of-pos-right, mul-pos}
 use lib.ListN.{length}
 use borrow.Author.Tests.{ne-eqb}
-use Rattle.err.specs.Model.{flowAt}
-use Rattle.err.specs.Rules.{Rules}
-use Rattle.err.specs.Chain.{Call, History, start, chain}
-use Rattle.err.specs.declared.Serving.{Serving}
-use Rattle.err.specs.declared.Serving.the-variants.{NoTurn, Turn}
-use Rattle.err.proofs.Keeps.{new-keeps, weighs}
-use Rattle.err.proofs.Chains.{chain-keeps}
+use Rattle.model.specs.Model.{flowAt}
+use Rattle.model.specs.Rules.{Rules}
+use Rattle.model.specs.Chain.{Call, History, start, chain}
+use Rattle.model.specs.declared.Serving.{Serving}
+use Rattle.model.specs.declared.Serving.the-variants.{NoTurn, Turn}
+use Rattle.model.proofs.Keeps.{new-keeps, weighs}
+use Rattle.model.proofs.Chains.{chain-keeps}
 use Rattle.account.specs.Stretch.{Stretch, begun, ended, Waiting, WaitingAfterEvery, WaitingThroughout, ConsecutiveTurns, SomethingSent, bytesSent, bytes, sumOf, onePlusMark, onePlusMarks, sentIn, turnsIn, weightOf, surplusBefore, surplusAfter, largest, largestSinceReset, DifferByAtMost, DifferByLessThan}
 use Rattle.account.proofs.Circle.{circleOf, onAccount, held, Run}
 use Rattle.account.proofs.Sums.{largest-append, no-bytes}

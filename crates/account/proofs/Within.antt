@@ -6,9 +6,9 @@ use mathlib.Core.List.{List}
 use native.Mathlib.Omega.{arith}
 use native.Mathlib.Decide.{decLe}
 use lib.ListN.{length, length-append}
-use Rattle.err.specs.Model.{Flow}
-use Rattle.err.specs.declared.Sent.{Sent}
-use Rattle.err.proofs.Line.{same-or-other}
+use Rattle.model.specs.Model.{Flow}
+use Rattle.model.specs.declared.Sent.{Sent}
+use Rattle.model.proofs.Line.{same-or-other}
 use Rattle.account.specs.Stretch.{largest}
 use Rattle.account.proofs.Circle.{Circle, Move, round-starts, turn-opens, turn-stays-open, turn-ends, flow-runs-empty, flow-joins, packet-joins, flow-opens, Run, stands, moves, follows, Renewed}
 use Rattle.account.proofs.Sums.{largest-append}

@@ -4,7 +4,7 @@
 use Prim.Native.Nat.{_+_, _*_, _-_}
 use mathlib.Core.Path.{_≡_}
 use mathlib.Core.List.{[], _∷_}
-use Rattle.err.specs.Chain.{opening, offering, departing, bursting}
+use Rattle.model.specs.Chain.{opening, offering, departing, bursting}
 use Rattle.account.specs.Stretch.{Stretch, WaitingThroughout, ConsecutiveTurns, bytesSent, onePlusMarks, weightOf, surplusBefore, surplusAfter, largestSinceReset}
 
 unfoldable pub reaching : Stretch

@@ -5,15 +5,15 @@ use mathlib.Core.List.{List, [], _∷_, _++_}
 use mathlib.Core.Bool.{cond}
 use lib.ListN.{length, replicate}
 use lib.Dec.{eqb}
-use Rattle.err.specs.Choose.{ifZero}
-use Rattle.err.specs.Model.{Scheduler, flowAt}
-use Rattle.err.specs.Calls.{departed, burstRefusal}
-use Rattle.err.specs.Chain.{Call, resetting, opening, offering, departing, bursting, leaving, History, start, next, chain}
-use Rattle.err.specs.declared.Sent.{Sent}
-use Rattle.err.specs.declared.Reply.{Reply}
-use Rattle.err.specs.declared.Reply.the-variants.{Departure, Idle, Refused}
-use Rattle.err.specs.declared.Serving.{Serving}
-use Rattle.err.specs.declared.Serving.the-variants.{NoTurn, Turn}
+use Rattle.model.specs.Choose.{ifZero}
+use Rattle.model.specs.Model.{Scheduler, flowAt}
+use Rattle.model.specs.Calls.{departed, burstRefusal}
+use Rattle.model.specs.Chain.{Call, resetting, opening, offering, departing, bursting, leaving, History, start, next, chain}
+use Rattle.model.specs.declared.Sent.{Sent}
+use Rattle.model.specs.declared.Reply.{Reply}
+use Rattle.model.specs.declared.Reply.the-variants.{Departure, Idle, Refused}
+use Rattle.model.specs.declared.Serving.{Serving}
+use Rattle.model.specs.declared.Serving.the-variants.{NoTurn, Turn}
 
 -- Calls from any moment on, with those that came before them since the scheduler was new.
 pub record Stretch : Type 0 where

@@ -1,10 +1,10 @@
 // The loop `again` of bench/plain/README.md: bursts of 100 from one full state.
-use loops::SENT;
-use loops::sums;
-use loops::words;
+use bench_loops::SENT;
+use bench_loops::sums;
+use bench_loops::words;
 
 fn again(n: u64) -> u32 {
-    let full = loops::filled(true);
+    let full = bench_loops::filled(true);
     let mut list = [0u8; SENT];
     let mut check: u32 = 0;
     let mut i: u64 = 0;

@@ -1,10 +1,10 @@
 // The loop `departs` of bench/plain/README.md: 100 departures from one full state, one call each.
-use loops::SENT;
-use loops::sums;
-use loops::words;
+use bench_loops::SENT;
+use bench_loops::sums;
+use bench_loops::words;
 
 fn departs(n: u64) -> u32 {
-    let full = loops::filled(false);
+    let full = bench_loops::filled(false);
     let mut check: u32 = 0;
     let mut i: u64 = 0;
     while i < n {

@@ -1,10 +1,10 @@
 // The loop `pairs` of bench/plain/README.md: one offer and one departure at a time.
 ghost use Prim.Native.Nat.{_≤_, _<_};
-ghost use Rattle.err.specs.Limits.{flowLimit};
+ghost use Rattle.model.specs.Limits.{flowLimit};
 ghost use Rattle.order.specs.Encoding.{Sound};
-use err::FLOW_LIMIT;
-use loops::sums;
-use loops::words;
+use bench_loops::sums;
+use bench_loops::words;
+use model::FLOW_LIMIT;
 use order::State;
 
 // The flows open, with two packets waiting in each.
@@ -12,10 +12,10 @@ fn begun(flows: usize) -> State
     requires { ⌜ flows ≤ flowLimit ⌝ }
     ensures { λ s. ⌜ Sound s ⌝ }
 {
-    let mut s = loops::opened(flows);
+    let mut s = bench_loops::opened(flows);
     let mut k: u64 = 0;
     while k < 2 * flows as u64 {
-        let asked = s.offer((k / 2) as usize, loops::size(k / 2));
+        let asked = s.offer((k / 2) as usize, bench_loops::size(k / 2));
         s = asked.state;
         k += 1;
     }
@@ -53,7 +53,7 @@ fn pairs(flows: usize, n: u64) -> u32
     let mut check: u32 = 0;
     let mut i: u64 = 0;
     while i < n {
-        let made = pair(s, (i % flows as u64) as usize, loops::size(i), check);
+        let made = pair(s, (i % flows as u64) as usize, bench_loops::size(i), check);
         s = made.state;
         check = made.check;
         i += 1;

@@ -2,13 +2,13 @@
 ghost use mathlib.Core.Path.{_≡_};
 ghost use Prim.Native.Nat.{_≤_, _<_};
 ghost use lib.ListN.{length};
-ghost use Rattle.err.specs.Limits.{sizeLimit};
+ghost use Rattle.model.specs.Limits.{sizeLimit};
 ghost use Rattle.store.specs.Promised.{SoundSite};
-use err::Answer;
-use err::Reply;
-use err::SIZE_LIMIT;
-use loops::sums;
-use loops::words;
+use bench_loops::sums;
+use bench_loops::words;
+use model::Answer;
+use model::Reply;
+use model::SIZE_LIMIT;
 use store::Site;
 
 const FLOWS: usize = 4;

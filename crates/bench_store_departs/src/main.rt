@@ -1,12 +1,12 @@
 // The loop `store_departs` of bench/plain/README.md: 100 store departures from one full site, one call each.
 ghost use Rattle.store.specs.Promised.{SoundSite};
-use err::FLOW_LIMIT;
-use err::QUEUE_LIMIT;
-use err::SIZE_LIMIT;
-use loops::FULL;
-use loops::SENT;
-use loops::sums;
-use loops::words;
+use bench_loops::FULL;
+use bench_loops::SENT;
+use bench_loops::sums;
+use bench_loops::words;
+use model::FLOW_LIMIT;
+use model::QUEUE_LIMIT;
+use model::SIZE_LIMIT;
 use store::Site;
 
 // Every flow open, by weights of 1 to 4.

@@ -9,23 +9,25 @@ use lib.Seq.{take-suc-set, drop-set-lt, length-take-le, drop-drop, append-snoc}
 use mathlib.Core.Logic.{⊎-elim}
 use types.Run.{OneOf}
 use denote.Enum.Declared.{tagOf}
-use Rattle.err.proofs.Reply.{the-type}
+use Rattle.model.proofs.Reply.{the-type}
 use mathlib.Core.Bool.{Bool, cond}
 use borrow.Author.Tests.{lt-ltb, le-ltb}
-use Rattle.err.specs.Choose.{ifZero}
-use Rattle.err.specs.Model.{Scheduler}
-use Rattle.err.specs.Steps.{visit, whose}
-use Rattle.err.specs.Calls.{Departures, Burst, departed, departures, andThen, flowNumbers, burst, burstMade}
-use Rattle.err.specs.declared.Count.the-variants.{Made, Refused as CountRefused}
-use Rattle.err.specs.declared.Reply.{Reply}
-use Rattle.err.specs.declared.Reply.the-variants.{Departure, Idle, Refused}
-use Rattle.err.specs.declared.Sent.{Sent}
-use Rattle.err.proofs.Keeps.{departed-keeps}
-use Rattle.order.specs.Encoding.{viewFlow, encode, view, Sound}
-use Rattle.order.specs.Premises.{roundOf, viewRound, encodeVisit, heldVisit}
+use Rattle.model.specs.Choose.{ifZero}
+use Rattle.model.specs.Model.{Scheduler}
+use Rattle.model.specs.Steps.{visit, whose}
+use Rattle.model.specs.Calls.{Departures, Burst, departed, departures, andThen, flowNumbers, burst, burstMade}
+use Rattle.model.specs.declared.Count.the-variants.{Made, Refused as CountRefused}
+use Rattle.model.specs.declared.Reply.{Reply}
+use Rattle.model.specs.declared.Reply.the-variants.{Departure, Idle, Refused}
+use Rattle.model.specs.declared.Sent.{Sent}
+use Rattle.model.proofs.Keeps.{departed-keeps}
+use Rattle.steps.specs.Cells.{viewFlow}
+use Rattle.order.specs.Encoding.{encode, view, Sound}
+use Rattle.steps.specs.Premises.{viewRound, encodeVisit, visitInPlace}
+use Rattle.order.proofs.StateLaws.{roundOf}
 use Rattle.order.specs.Promised.{countedAs, BurstGives}
 use Rattle.order.specs.declared.State.{State}
-use Rattle.order.specs.declared.Visited.{Visited}
+use Rattle.steps.specs.declared.Visited.{Visited}
 use Rattle.order.proofs.StateLaws.{noCell, seen-as, sound-of, departed-state, departed-reply}
 
 -- After `made` departures, with the state c and the list as they then are.
@@ -168,7 +170,7 @@ module _ (s : Scheduler) (n : ℕ) (before : List ℕ) (c : State) (made : ℕ) 
 -- The same of what a visit of the flow at `at` gives.
 module _ (s : Scheduler) (n : ℕ) (before : List ℕ) (c : State) (made : ℕ) (list : List ℕ) (U : Underway s n before c made list) (more : made < n)
     (at : ℕ) (e : at ≡ whose (viewRound (roundOf c))) (v : Visited) (line : List ℕ)
-    (g : heldVisit line v ≡ encodeVisit (visit (viewRound (roundOf c)) (viewFlow (getD (c .flows) at noCell)))) where
+    (g : visitInPlace line v ≡ encodeVisit (visit (viewRound (roundOf c)) (viewFlow (getD (c .flows) at noCell)))) where
   abbrev visited : State
   visited = record { flows = set (c .flows) at (v .flow); line = line; round = v .round }
 

@@ -2,14 +2,14 @@
 use Prim.Native.Nat.{ℕ, _≤_}
 use mathlib.Core.Path.{_≡_, refl, sym, ap, ap₂, _∙_}
 use mathlib.Core.List.{List, [], _∷_, _++_}
-use Rattle.err.specs.Model.{Scheduler, newScheduler}
-use Rattle.err.specs.Rules.{count, standing}
-use Rattle.err.specs.Replies.{Said, ofAnswer, ofReply, ofCount}
-use Rattle.err.specs.Calls.{opened, offered, departed, burst}
-use Rattle.err.specs.Chain.{Call, resetting, opening, offering, departing, bursting, History, start, next, chain, after, saying, sayings}
-use Rattle.err.proofs.Demand2.{every-state-keeps-the-rules}
-use Rattle.err.proofs.Standing.{never-twice}
-use Rattle.err.proofs.Chains.{chain-append, sayings-end}
+use Rattle.model.specs.Model.{Scheduler, newScheduler}
+use Rattle.model.specs.Rules.{count, standing}
+use Rattle.model.specs.Replies.{Said, ofAnswer, ofReply, ofCount}
+use Rattle.model.specs.Calls.{opened, offered, departed, burst}
+use Rattle.model.specs.Chain.{Call, resetting, opening, offering, departing, bursting, History, start, next, chain, after, saying, sayings}
+use Rattle.model.proofs.Demand2.{every-state-keeps-the-rules}
+use Rattle.model.proofs.Standing.{never-twice}
+use Rattle.model.proofs.Chains.{chain-append, sayings-end}
 use Rattle.order.specs.Encoding.{encode, view, Sound}
 use Rattle.order.specs.Promised.{answeredAs, offeredAs, departedAs, countedAs}
 use Rattle.order.specs.Runs.{Run, begins, then-resets, then-opens, then-offers, then-departs, then-bursts}

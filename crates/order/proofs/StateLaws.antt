@@ -9,34 +9,39 @@ use native.Mathlib.Decide.{decLt}
 use lib.ListN.{length, getD, set, length-map, List·getD-map}
 use lib.Dec.{ltb, leb}
 use borrow.Author.Tests.{lt-ltb, le-ltb, le-leb}
-use Rattle.err.specs.Limits.{flowLimit}
-use Rattle.err.specs.Choose.{ifZero}
-use Rattle.err.specs.Model.{Flow, Round, Scheduler, closedFlow, flowAt, newScheduler}
-use Rattle.err.specs.Steps.{visit, whose, whoseTurn, packetJoined, flowLined}
-use Rattle.err.specs.Calls.{put, unlessRefused, openRefusal, offerRefusal, openFlow, answerOf, opened, offered, departed, nextVisit}
-use Rattle.err.specs.Rules.{Sizes, Rules}
-use Rattle.err.specs.declared.Answer.{Answer}
-use Rattle.err.specs.declared.Serving.{Serving}
-use Rattle.err.specs.declared.Serving.the-variants.{Turn}
-use Rattle.err.proofs.Flows.{put-back, none-is-empty}
-use Rattle.err.proofs.Keeps.{new-keeps, opened-keeps, offered-keeps, departed-keeps}
-use Rattle.err.proofs.Standing.{InRange, TurnFacts, HeadFacts, in-range, room-for-another, turn-facts, head-facts, whose-in-reach}
-use Rattle.err.proofs.Choosing.{positive-chosen, chosen-has}
-use Rattle.order.specs.Encoding.{encodeFlow, viewFlow, encode, view, Sound}
-use Rattle.order.specs.Places.{endPlace, nowhere, offeredPlace, joiningPlace, firstPlace, leavingPlace}
-use Rattle.order.specs.Premises.{RoundHeld, held, numbersOf, roundOf, encodeRound, viewRound, FlowReady, RoundReady, HasFirst, MayServe, MayBegin, MayVisit, VisitHeld, encodeVisit, heldVisit, OfferHeld, withLength, heldOffer, openedParts, offeredParts}
+use Rattle.model.specs.Limits.{flowLimit}
+use Rattle.model.specs.Choose.{ifZero}
+use Rattle.model.specs.Model.{Flow, Round, Scheduler, closedFlow, flowAt, newScheduler}
+use Rattle.model.specs.Steps.{visit, whose, whoseTurn, packetJoined, flowLined}
+use Rattle.model.specs.Calls.{put, unlessRefused, openRefusal, offerRefusal, openFlow, answerOf, opened, offered, departed, nextVisit}
+use Rattle.model.specs.Rules.{Sizes, Rules}
+use Rattle.model.specs.declared.Answer.{Answer}
+use Rattle.model.specs.declared.Serving.{Serving}
+use Rattle.model.specs.declared.Serving.the-variants.{Turn}
+use Rattle.model.proofs.Flows.{put-back, none-is-empty}
+use Rattle.model.proofs.Keeps.{new-keeps, opened-keeps, offered-keeps, departed-keeps}
+use Rattle.model.proofs.Standing.{InRange, TurnFacts, HeadFacts, in-range, room-for-another, turn-facts, head-facts, whose-in-reach}
+use Rattle.model.proofs.Choosing.{positive-chosen, chosen-has}
+use Rattle.steps.specs.Cells.{encodeFlow, viewFlow}
+use Rattle.order.specs.Encoding.{encode, view, Sound}
+use Rattle.steps.specs.Places.{endPlace, nowhere, offeredPlace, joiningPlace, firstPlace, leavingPlace}
+use Rattle.steps.specs.Premises.{RoundInPlace, inPlace, numbersOf, encodeRound, viewRound, FlowReady, RoundReady, HasFirst, MayServe, MayBegin, MayVisit, VisitInPlace, encodeVisit, visitInPlace, OfferInPlace, withLength, offerInPlace, openedParts, offeredParts}
 use Rattle.order.specs.Promised.{answeredAs, offeredAs, departedAs, NewGives, OpenGives, OfferGives, DepartGives}
 use Rattle.order.specs.declared.Answered.{Answered}
-use Rattle.order.specs.declared.Offered.{Offered}
-use Rattle.order.specs.declared.Opened.{Opened}
+use Rattle.steps.specs.declared.Offered.{Offered}
+use Rattle.steps.specs.declared.Opened.{Opened}
 use Rattle.order.specs.declared.Departed.{Departed}
-use Rattle.order.specs.declared.FlowCell.{FlowCell}
-use Rattle.order.specs.declared.Place.{Place}
+use Rattle.steps.specs.declared.FlowCell.{FlowCell}
+use Rattle.steps.specs.declared.Place.{Place}
 use Rattle.order.specs.declared.Placed.{Placed}
-use Rattle.order.specs.declared.RoundCell.{RoundCell}
+use Rattle.steps.specs.declared.RoundCell.{RoundCell}
 use Rattle.order.specs.declared.State.{State}
-use Rattle.order.specs.declared.Visited.{Visited}
-use Rattle.order.proofs.Encoded.{flow-seen, flow-ready, round-seen, round-ready, waiting-is, length-is}
+use Rattle.steps.specs.declared.Visited.{Visited}
+use Rattle.steps.proofs.Encoded.{flow-seen, flow-ready, round-seen, round-ready, waiting-is, length-is}
+
+-- The round of a state, as the steps have it.
+abbrev pub roundOf : State → RoundInPlace
+roundOf c = inPlace (c .line) (c .round)
 
 -- What reading past the end of the flows would give.
 abbrev pub noCell : FlowCell
@@ -116,11 +121,11 @@ module _ (c : State) (S : Sound c) where
       }
 
   -- One flow put back, with a round.
-  put-law : (f : ℕ) (x : FlowCell) (line : List ℕ) (r : RoundCell) (y : Flow) (q : Round) → x ≡ encodeFlow y → held line r ≡ encodeRound q
+  put-law : (f : ℕ) (x : FlowCell) (line : List ℕ) (r : RoundCell) (y : Flow) (q : Round) → x ≡ encodeFlow y → inPlace line r ≡ encodeRound q
       → record { flows = set (c .flows) f x; line = line; round = r } ≡ encode (put (view c) f y q)
   unfolding encode encodeRound put
   put-law f x line r y q a b =
-      ap₂ (λ (l : List FlowCell) (k : RoundHeld). record { flows = l; line = k .line; round = numbersOf k })
+      ap₂ (λ (l : List FlowCell) (k : RoundInPlace). record { flows = l; line = k .line; round = numbersOf k })
       (ap₂ (λ (l : List FlowCell) (k : FlowCell). set l f k) flows-are a ∙ map-set (view c .flows) f y)
       b
 
@@ -195,8 +200,8 @@ module _ (c : State) (S : Sound c) where
     place-seen =
         ap (firstPlace at) (cell-seen at at-in-reach) ∙ ap (λ (k : ℕ). firstPlace k (flowAt (view c) k)) e
 
-    module _ (v : Visited) (line : List ℕ) (g : heldVisit line v ≡ encodeVisit (visit (viewRound (roundOf c)) (viewFlow (getD (c .flows) at noCell)))) where
-      visit-seen : heldVisit line v ≡ encodeVisit (nextVisit (view c))
+    module _ (v : Visited) (line : List ℕ) (g : visitInPlace line v ≡ encodeVisit (visit (viewRound (roundOf c)) (viewFlow (getD (c .flows) at noCell)))) where
+      visit-seen : visitInPlace line v ≡ encodeVisit (nextVisit (view c))
       unfolding view viewRound
       visit-seen =
           g
@@ -207,13 +212,13 @@ module _ (c : State) (S : Sound c) where
       unfolding departed encodeVisit view viewRound
       departed-state =
           put-law at (v .flow) line (v .round) (nextVisit (view c) .flow) (nextVisit (view c) .round)
-          (ap (λ (k : VisitHeld). k .flow) visit-seen)
-          (ap (λ (k : VisitHeld). k .round) visit-seen)
+          (ap (λ (k : VisitInPlace). k .flow) visit-seen)
+          (ap (λ (k : VisitInPlace). k .round) visit-seen)
           ∙ ap (λ (k : ℕ). encode (put (view c) k (nextVisit (view c) .flow) (nextVisit (view c) .round))) e
 
       pub departed-reply : v .reply ≡ departed (view c) .reply
       unfolding departed encodeVisit
-      departed-reply = ap (λ (k : VisitHeld). k .reply) visit-seen
+      departed-reply = ap (λ (k : VisitInPlace). k .reply) visit-seen
 
       pub departed-gives : (from : Place) → (FlowReady (getD (c .flows) at noCell) → from ≡ firstPlace at (viewFlow (getD (c .flows) at noCell)))
           → DepartGives c (record { state = record { flows = set (c .flows) at (v .flow); line = line; round = v .round }; reply = v .reply; from = from })
@@ -273,7 +278,7 @@ module _ (c : State) (S : Sound c) where
           ]
 
       module _ (cell : FlowCell) (line : List ℕ) (r : RoundCell) (answer : Answer) (x : Flow) (i : x ≡ looked-at)
-          (g : cell ≡ encodeFlow (ifZero (ρ x) (flow x) x)) (h : held line r ≡ encodeRound (ifZero (ρ x) (round x) (view c .round))) (k : answer ≡ answerOf (ρ x)) where
+          (g : cell ≡ encodeFlow (ifZero (ρ x) (flow x) x)) (h : inPlace line r ≡ encodeRound (ifZero (ρ x) (round x) (view c .round))) (k : answer ≡ answerOf (ρ x)) where
         asked-state : record { flows = set (c .flows) at cell; line = line; round = r }
             ≡ encode (unlessRefused (ρ (flowAt (view c) f)) (view c) (put (view c) f (flow (flowAt (view c) f)) (round (flowAt (view c) f))) .state)
         unfolding unlessRefused
@@ -327,7 +332,7 @@ module _ (c : State) (S : Sound c) where
         × (FlowReady (getD (c .flows) at noCell) × (f < flowLimit → getD (c .flows) at noCell .waiting ≡ 0 → c .round .length < flowLimit))
     may-offer-to = (round-of-sound, (cell-ready at index-in-reach, room-in-line))
 
-    pub offered-gives : (size : ℕ) (o : Offered) (line : List ℕ) → heldOffer line (c .round) o ≡ offeredParts (roundOf c) (getD (c .flows) at noCell) f size
+    pub offered-gives : (size : ℕ) (o : Offered) (line : List ℕ) → offerInPlace line (c .round) o ≡ offeredParts (roundOf c) (getD (c .flows) at noCell) f size
         → OfferGives c f size (record { state = record { flows = set (c .flows) at (o .flow); line = line; round = withLength (c .round) (o .length) }; answer = o .answer; into = o .into })
     unfolding offeredParts view viewRound offered answeredAs offeredAs
     offered-gives size o line g =
@@ -344,11 +349,11 @@ module _ (c : State) (S : Sound c) where
         outcome-here =
             asked-outcome (offerRefusal f size) (λ y h. no-such-flow _ h) (λ y. packetJoined y size) (λ y. flowLined (view c .round) f y)
             (o .flow) line (withLength (c .round) (o .length)) (o .answer) x (cell-seen at index-in-reach)
-            (ap (λ (k : OfferHeld). k .flow) g) (ap (λ (k : OfferHeld). k .round) g) (ap (λ (k : OfferHeld). k .answer) g)
+            (ap (λ (k : OfferInPlace). k .flow) g) (ap (λ (k : OfferInPlace). k .round) g) (ap (λ (k : OfferInPlace). k .answer) g)
 
         place-here : o .into ≡ joiningPlace (view c) f size
         place-here =
-            ap (λ (k : OfferHeld). k .into) g
+            ap (λ (k : OfferInPlace). k .into) g
             ∙ ap (λ (y : Flow). offeredPlace f y size) (cell-seen at index-in-reach)
             ∙ same-choice (offerRefusal f size) (λ y h. no-such-flow _ h) (λ y. packetJoined y size) (λ y. flowLined (view c .round) f y)
             (λ y. endPlace f y size) nowhere

@@ -3,11 +3,11 @@
 use Prim.Native.Nat.{ℕ}
 use mathlib.Core.Path.{_≡_}
 use mathlib.Core.List.{List}
-use Rattle.err.specs.Model.{Scheduler, newScheduler}
-use Rattle.err.specs.Calls.{Outcome, Burst, opened, offered, departed, burst}
-use Rattle.err.specs.declared.Answer.{Answer}
+use Rattle.model.specs.Model.{Scheduler, newScheduler}
+use Rattle.model.specs.Calls.{Outcome, Burst, opened, offered, departed, burst}
+use Rattle.model.specs.declared.Answer.{Answer}
 use Rattle.order.specs.Encoding.{encode, view, Sound}
-use Rattle.order.specs.Places.{joiningPlace, leavingPlace}
+use Rattle.steps.specs.Places.{joiningPlace, leavingPlace}
 use Rattle.order.specs.declared.State.{State}
 use Rattle.order.specs.declared.Answered.{Answered}
 use Rattle.order.specs.declared.Departed.{Departed}

@@ -1,8 +1,8 @@
 -- A run of the calls: each on the state that the one before it handed back, and each with any outcome that meets its contract.
 use Prim.Native.Nat.{ℕ}
 use mathlib.Core.List.{List, [], _∷_, _++_}
-use Rattle.err.specs.Chain.{Call, resetting, opening, offering, departing, bursting}
-use Rattle.err.specs.Replies.{Said, told, ofAnswer, ofReply, ofCount}
+use Rattle.model.specs.Chain.{Call, resetting, opening, offering, departing, bursting}
+use Rattle.model.specs.Replies.{Said, told, ofAnswer, ofReply, ofCount}
 use Rattle.order.specs.Promised.{NewGives, OpenGives, OfferGives, DepartGives, BurstGives}
 use Rattle.order.specs.declared.State.{State}
 use Rattle.order.specs.declared.Answered.{Answered}

@@ -1,39 +1,19 @@
 // The calls on packet sizes: document 01's order layer. Each takes the scheduler's state and hands it back beside its reply.
 ghost use Rattle.order.specs.Encoding.{Sound};
 ghost use Rattle.order.specs.Promised.{NewGives, OpenGives, OfferGives, DepartGives, BurstGives};
-use err::Answer;
-use err::Count;
-use err::FLOW_LIMIT;
-use err::LIST_SHORT;
-use err::Reply;
-use err::Serving;
-
-mod ask;
-mod cells;
-mod flow;
-mod round;
-mod turn;
-
-// The line has one cell more than there are flows, always 0, so that taking the head out is one move of whole words.
-const LINE_ROOM: usize = FLOW_LIMIT + 1;
-
-// One flow: the sizes of its waiting packets, each less one so that 256 fits a byte, are the digits of one number in base 256, the first packet's lowest.
-pub struct FlowCell {
-    pub weight: u16,
-    pub surplus: u16,
-    pub slot: u8,
-    pub waiting: u8,
-    pub sizes: u64,
-}
-
-// The round's numbers; `length` tells how many flows stand in the line.
-pub struct RoundCell {
-    pub length: u8,
-    pub visits: u8,
-    pub mark: u16,
-    pub running: u16,
-    pub turn: Serving,
-}
+use model::Answer;
+use model::Count;
+use model::FLOW_LIMIT;
+use model::LIST_SHORT;
+use model::Reply;
+use model::Serving;
+use steps::FlowCell;
+use steps::LINE_ROOM;
+use steps::Place;
+use steps::RoundCell;
+use steps::ask;
+use steps::flow;
+use steps::turn;
 
 // The scheduler's state, which only the calls make. The flow numbers of the line lie in the first cells. Its cells' types are public because states
 // lie in other crates' structs; no call takes or gives a cell.
@@ -41,34 +21,6 @@ pub struct State {
     flows: [FlowCell; FLOW_LIMIT],
     line: [u8; LINE_ROOM],
     round: RoundCell,
-}
-
-// A packet's flow, its slot there and its size; of size 0 where there is no packet.
-pub struct Place {
-    pub flow: usize,
-    pub slot: usize,
-    pub size: usize,
-}
-
-// What a departure call makes of the round's numbers and of the flow whose turn it is, with its reply.
-struct Visited {
-    pub round: RoundCell,
-    pub flow: FlowCell,
-    pub reply: Reply,
-}
-
-// What open makes of the flow that it concerns, with its answer.
-struct Opened {
-    pub flow: FlowCell,
-    pub answer: Answer,
-}
-
-// What offer makes of the line's length and of the flow that it concerns, with its answer and the packet's place.
-struct Offered {
-    pub length: u8,
-    pub flow: FlowCell,
-    pub answer: Answer,
-    pub into: Place,
 }
 
 // The replies, each with the state handed back beside it.

@@ -5,13 +5,13 @@ use mathlib.Core.List.{List, [], _∷_}
 use mathlib.Core.Path.{_≡_, refl, sym, ap, ap₂, _∙_, subst}
 use denote.Enum.Declared.{tagOf}
 use types.Run.{OneOf}
-use Rattle.err.specs.Model.{Scheduler}
-use Rattle.err.specs.Calls.{Outcome, opened, offered, departed}
-use Rattle.err.specs.declared.Sent.{Sent}
-use Rattle.err.specs.declared.Answer.{Answer}
-use Rattle.err.specs.declared.Reply.{Reply}
-use Rattle.err.specs.declared.Reply.the-variants.{Departure}
-use Rattle.err.proofs.Reply.{the-type}
+use Rattle.model.specs.Model.{Scheduler}
+use Rattle.model.specs.Calls.{Outcome, opened, offered, departed}
+use Rattle.model.specs.declared.Sent.{Sent}
+use Rattle.model.specs.declared.Answer.{Answer}
+use Rattle.model.specs.declared.Reply.{Reply}
+use Rattle.model.specs.declared.Reply.the-variants.{Departure}
+use Rattle.model.proofs.Reply.{the-type}
 use Rattle.lines.specs.declared.Event.{Event}
 use Rattle.lines.specs.declared.Event.the-variants.{Flow, Arrive, Send}
 use Rattle.order.specs.Encoding.{view, Sound}

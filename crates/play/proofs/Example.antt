@@ -1,8 +1,8 @@
 -- The replay of document 01's worked input prints its six lines.
 use mathlib.Core.Path.{_≡_, refl}
-use Rattle.err.specs.Model.{newScheduler}
-use Rattle.err.specs.Steps.{packetJoined, flowLined, roundStarted, turnOpened, surplusCleared, firstLeft, turnKept, raised, turnClosed, excessKept, settled, served, visitBy, visit}
-use Rattle.err.specs.Calls.{put, unlessRefused, opened, offered, departed, andThen, departures}
+use Rattle.model.specs.Model.{newScheduler}
+use Rattle.model.specs.Steps.{packetJoined, flowLined, roundStarted, turnOpened, surplusCleared, firstLeft, turnKept, raised, turnClosed, excessKept, settled, served, visitBy, visit}
+use Rattle.model.specs.Calls.{put, unlessRefused, opened, offered, departed, andThen, departures}
 use Rattle.lines.specs.Number.{stands, digitAt, digitsFrom, numberAt}
 use Rattle.lines.specs.Line.{pastWord, fieldAt, pairAt, eventAt, lineAt}
 use Rattle.lines.specs.Written.{lastDigits, decimal}

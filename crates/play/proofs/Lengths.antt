@@ -12,16 +12,16 @@ use mathlib.Core.Path.{_≡_, refl, ap, ap₂, _∙_}
 use lib.ListN.{length, take, drop, length-append}
 use lib.Seq.{take-all, take-append-seam}
 use lib.Dec.{leb, ltb, eqb}
-use Rattle.err.specs.Limits.{flowLimit, weightLimit, sizeLimit, queueLimit}
-use Rattle.err.specs.Model.{Flow, Scheduler, flowAt, newScheduler}
-use Rattle.err.specs.Calls.{Departures, unlessRefused, openRefusal, offerRefusal, opened, offered, departed, andThen, departures}
-use Rattle.err.specs.Rules.{Rules}
-use Rattle.err.specs.declared.Reply.{Reply}
-use Rattle.err.specs.declared.Reply.the-variants.{Departure, Idle, Refused as ReplyRefused}
-use Rattle.err.specs.declared.Sent.{Sent}
-use Rattle.err.proofs.Keeps.{new-keeps, opened-keeps, offered-keeps, departed-keeps, departures-keep}
-use Rattle.err.proofs.Told.{ToldInRange, told-in-range}
-use Rattle.err.proofs.Departing.{idle-stays, never-refused}
+use Rattle.model.specs.Limits.{flowLimit, weightLimit, sizeLimit, queueLimit}
+use Rattle.model.specs.Model.{Flow, Scheduler, flowAt, newScheduler}
+use Rattle.model.specs.Calls.{Departures, unlessRefused, openRefusal, offerRefusal, opened, offered, departed, andThen, departures}
+use Rattle.model.specs.Rules.{Rules}
+use Rattle.model.specs.declared.Reply.{Reply}
+use Rattle.model.specs.declared.Reply.the-variants.{Departure, Idle, Refused as ReplyRefused}
+use Rattle.model.specs.declared.Sent.{Sent}
+use Rattle.model.proofs.Keeps.{new-keeps, opened-keeps, offered-keeps, departed-keeps, departures-keep}
+use Rattle.model.proofs.Told.{ToldInRange, told-in-range}
+use Rattle.model.proofs.Departing.{idle-stays, never-refused}
 use Rattle.lines.specs.Text.{bytes}
 use Rattle.lines.specs.Line.{lineAt}
 use Rattle.lines.specs.Written.{decimal, field, eventText, written}

@@ -6,8 +6,8 @@ use mathlib.Core.List.{List, [], _∷_}
 use mathlib.Core.Path.{_≡_, sym, ap, ap₂, _∙_}
 use lib.ListN.{length}
 use borrow.Author.Tests.{lt-ltb, le-ltb}
-use Rattle.err.specs.Model.{Scheduler}
-use Rattle.err.proofs.Keeps.{new-keeps}
+use Rattle.model.specs.Model.{Scheduler}
+use Rattle.model.proofs.Keeps.{new-keeps}
 use Rattle.lines.specs.Line.{lineAt}
 use Rattle.lines.specs.Number.{largest}
 use Rattle.lines.specs.Written.{Sayable}

@@ -1,7 +1,7 @@
 -- The fields of a line, put one behind the other, are the line of a report.
 use Prim.Native.Nat.{ℕ}
 use mathlib.Core.Path.{_≡_}
-use Rattle.err.specs.declared.Sent.{Sent}
+use Rattle.model.specs.declared.Sent.{Sent}
 use Rattle.lines.specs.Text.{bytes}
 use Rattle.lines.specs.Written.{field}
 use Rattle.print.specs.Page.{Page, put}

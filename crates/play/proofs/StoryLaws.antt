@@ -9,14 +9,14 @@ use lib.Dec.{leb·suc-suc}
 use borrow.Author.Tests.{lt-ltb}
 use denote.Enum.Declared.{tagOf}
 use types.Run.{OneOf}
-use Rattle.err.specs.Model.{Scheduler}
-use Rattle.err.specs.Calls.{departed, andThen, departures}
-use Rattle.err.specs.declared.Sent.{Sent}
-use Rattle.err.specs.declared.Answer.{Answer}
-use Rattle.err.specs.declared.Answer.the-variants.{Done, Refused}
-use Rattle.err.specs.declared.Reply.{Reply}
-use Rattle.err.specs.declared.Reply.the-variants.{Departure, Idle, Refused as ReplyRefused}
-use Rattle.err.proofs.Reply.{the-type}
+use Rattle.model.specs.Model.{Scheduler}
+use Rattle.model.specs.Calls.{departed, andThen, departures}
+use Rattle.model.specs.declared.Sent.{Sent}
+use Rattle.model.specs.declared.Answer.{Answer}
+use Rattle.model.specs.declared.Answer.the-variants.{Done, Refused}
+use Rattle.model.specs.declared.Reply.{Reply}
+use Rattle.model.specs.declared.Reply.the-variants.{Departure, Idle, Refused as ReplyRefused}
+use Rattle.model.proofs.Reply.{the-type}
 use Rattle.order.proofs.BurstLaws.{no-departure-ends}
 use Rattle.lines.specs.declared.Event.{Event}
 use Rattle.lines.specs.declared.Event.the-variants.{Flow, Arrive, Send}

@@ -6,15 +6,15 @@ use mathlib.Core.List.{List, [], _∷_}
 use mathlib.Core.Path.{_≡_, refl, ap, subst}
 use lib.ListN.{length, getD, set, length-append, List·getD-eq-default}
 use lib.Seq.{set-out}
-use Rattle.err.specs.Model.{Flow, Scheduler, closedFlow, flowAt, newScheduler}
-use Rattle.err.specs.Steps.{packetJoined, flowLined, whose}
-use Rattle.err.specs.Calls.{put, openFlow, nextVisit, departed}
-use Rattle.err.specs.Rules.{Rules}
-use Rattle.err.specs.declared.Reply.the-variants.{Departure}
-use Rattle.err.specs.declared.Sent.{Sent}
-use Rattle.err.proofs.Standing.{whose-in-reach}
-use Rattle.err.proofs.Flows.{here-now}
-use Rattle.err.proofs.Departing.{Leaves, departed-leaves}
+use Rattle.model.specs.Model.{Flow, Scheduler, closedFlow, flowAt, newScheduler}
+use Rattle.model.specs.Steps.{packetJoined, flowLined, whose}
+use Rattle.model.specs.Calls.{put, openFlow, nextVisit, departed}
+use Rattle.model.specs.Rules.{Rules}
+use Rattle.model.specs.declared.Reply.the-variants.{Departure}
+use Rattle.model.specs.declared.Sent.{Sent}
+use Rattle.model.proofs.Standing.{whose-in-reach}
+use Rattle.model.proofs.Flows.{here-now}
+use Rattle.model.proofs.Departing.{Leaves, departed-leaves}
 
 -- ---- the packets of a list of flows
 

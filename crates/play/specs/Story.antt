@@ -4,11 +4,11 @@ use mathlib.Core.Bool.{cond}
 use mathlib.Core.List.{List, [], _∷_, _++_}
 use lib.ListN.{length}
 use lib.Dec.{ltb}
-use Rattle.err.specs.Model.{Scheduler, newScheduler}
-use Rattle.err.specs.Calls.{Outcome, Departures, opened, offered, departures}
-use Rattle.err.specs.declared.Sent.{Sent}
-use Rattle.err.specs.declared.Answer.{Answer}
-use Rattle.err.specs.declared.Answer.the-variants.{Done, Refused}
+use Rattle.model.specs.Model.{Scheduler, newScheduler}
+use Rattle.model.specs.Calls.{Outcome, Departures, opened, offered, departures}
+use Rattle.model.specs.declared.Sent.{Sent}
+use Rattle.model.specs.declared.Answer.{Answer}
+use Rattle.model.specs.declared.Answer.the-variants.{Done, Refused}
 use Rattle.lines.specs.declared.Event.{Event}
 use Rattle.lines.specs.declared.Event.the-variants.{Flow, Arrive, Send}
 use Rattle.play.specs.Script.{Script, ended, spoiled, _then_}

@@ -4,7 +4,7 @@ use mathlib.Core.Bool.{cond}
 use mathlib.Core.List.{List, [], _∷_, _++_}
 use lib.ListN.{length}
 use lib.Dec.{ltb}
-use Rattle.err.specs.declared.Sent.{Sent}
+use Rattle.model.specs.declared.Sent.{Sent}
 use Rattle.lines.specs.Text.{bytes}
 use Rattle.lines.specs.Written.{field}
 use Rattle.play.specs.Script.{scriptOf}

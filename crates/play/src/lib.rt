@@ -7,10 +7,10 @@ ghost use Rattle.play.specs.Course.{replayOf, asked, Goes};
 ghost use Rattle.print.specs.Page.{page, put, Printed};
 ghost use Rattle.play.specs.Story.{refusal, sending, happening};
 ghost use Rattle.play.specs.Transcript.{inputLimit, textOf, transcript};
-use err::Answer;
-use err::Reply;
 use lines::Event;
 use lines::Line;
+use model::Answer;
+use model::Reply;
 use order::State;
 
 mod report;

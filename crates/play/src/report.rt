@@ -3,7 +3,7 @@ ghost use mathlib.Core.Path.{_≡_};
 ghost use Rattle.print.specs.Page.{page, put};
 ghost use Rattle.play.specs.Story.{bad, refused, sent, idle};
 ghost use Rattle.play.specs.Transcript.{replyText, lineOf};
-use err::Sent;
+use model::Sent;
 use print::byte;
 use print::field;
 

@@ -3,9 +3,9 @@ use Prim.Native.Nat.{ℕ}
 use mathlib.Core.Path.{_≡_, refl, sym, ap, _∙_, subst}
 use mathlib.Core.List.{List, []}
 use lib.ListN.{length}
-use Rattle.err.specs.Model.{Scheduler, flowAt}
-use Rattle.err.specs.Chain as SizeCall
-use Rattle.err.specs.declared.Sent.{Sent}
+use Rattle.model.specs.Model.{Scheduler, flowAt}
+use Rattle.model.specs.Chain as SizeCall
+use Rattle.model.specs.declared.Sent.{Sent}
 use Rattle.account.specs.Stretch.{Stretch, Waiting, sumOf, onePlusMark}
 use Rattle.account.specs.Stretch as SizeStretch
 use Rattle.store.specs.Slots.{storeLength}

@@ -7,17 +7,17 @@ use mathlib.Core.Bool.{Bool, true, false, cond}
 use native.Mathlib.Omega.{arith}
 use lib.ListN.{length}
 use lib.Dec.{eqb, ltb}
-use Rattle.err.specs.Choose.{ifZero}
-use Rattle.err.specs.Model.{Scheduler}
-use Rattle.err.specs.Calls.{departed}
-use Rattle.err.specs.Replies.{sentBy}
-use Rattle.err.specs.Rules.{Rules}
-use Rattle.err.specs.Chain.{Call, packetsOf, Packet as SizedPacket}
-use Rattle.err.specs.Chain as SizeCall
-use Rattle.err.specs.declared.Sent.{Sent}
-use Rattle.err.specs.declared.Reply.{Reply}
-use Rattle.err.specs.declared.Reply.the-variants.{Departure, Idle, Refused}
-use Rattle.err.proofs.Chains.{chain-append}
+use Rattle.model.specs.Choose.{ifZero}
+use Rattle.model.specs.Model.{Scheduler}
+use Rattle.model.specs.Calls.{departed}
+use Rattle.model.specs.Replies.{sentBy}
+use Rattle.model.specs.Rules.{Rules}
+use Rattle.model.specs.Chain.{Call, packetsOf, Packet as SizedPacket}
+use Rattle.model.specs.Chain as SizeCall
+use Rattle.model.specs.declared.Sent.{Sent}
+use Rattle.model.specs.declared.Reply.{Reply}
+use Rattle.model.specs.declared.Reply.the-variants.{Departure, Idle, Refused}
+use Rattle.model.proofs.Chains.{chain-append}
 use Rattle.account.specs.Stretch.{Waiting, turnThen}
 use Rattle.account.specs.Stretch as SizeStretch
 use Rattle.account.proofs.Bursts.{sent-append, turns-append, waiting-append}

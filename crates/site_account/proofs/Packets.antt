@@ -8,8 +8,8 @@ use native.Mathlib.Decide.{ℕ-discrete}
 use lib.ListN.{length, length-map}
 use lib.Dec.{eqb}
 use borrow.Author.Tests.{eq-eqb, ne-eqb}
-use Rattle.err.specs.Chain.{Packet as SizedPacket, packetsOf}
-use Rattle.err.specs.declared.Sent.{Sent}
+use Rattle.model.specs.Chain.{Packet as SizedPacket, packetsOf}
+use Rattle.model.specs.declared.Sent.{Sent}
 use Rattle.account.specs.Stretch.{sumOf, bytes, largest}
 use Rattle.store.specs.Chain.{Packet, bytesOf}
 use Rattle.site_account.specs.SiteStretch.{inAll, longest}

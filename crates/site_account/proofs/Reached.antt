@@ -4,8 +4,8 @@ use mathlib.Core.Path.{_≡_, refl, sym, ap, _∙_, subst}
 use mathlib.Core.List.{List, [], _∷_}
 use native.Mathlib.Omega.{arith}
 use lib.ListN.{length, getD}
-use Rattle.err.specs.Model.{flowAt}
-use Rattle.err.specs.Chain.{History}
+use Rattle.model.specs.Model.{flowAt}
+use Rattle.model.specs.Chain.{History}
 use Rattle.account.specs.Stretch.{Stretch, sumOf, bytes, onePlusMark, largest, oneByOne}
 use Rattle.account.specs.Stretch as SizeStretch
 use Rattle.account.specs.Reaching.{reaching}

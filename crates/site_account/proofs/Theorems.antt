@@ -4,7 +4,7 @@ use Prim.Native.Nat.{ℕ, _+_, _*_, _-_}
 use mathlib.Core.Path.{_≡_, subst}
 use mathlib.Core.List.{List, [], _∷_}
 use native.Mathlib.Omega.{arith}
-use Rattle.err.specs.Chain.{packetsOf}
+use Rattle.model.specs.Chain.{packetsOf}
 use Rattle.account.specs.Stretch.{Waiting, DifferByAtMost, DifferByLessThan}
 use Rattle.account.specs.Stretch as SizeStretch
 use Rattle.account.proofs.Stretches.{nobody-waits}

@@ -3,8 +3,8 @@ use Prim.Native.Nat.{ℕ, _+_, _≤_, max}
 use mathlib.Core.Path.{_≡_}
 use mathlib.Core.List.{List, [], _∷_, _++_}
 use lib.ListN.{length}
-use Rattle.err.specs.Model.{Scheduler, flowAt}
-use Rattle.err.specs.declared.Sent.{Sent}
+use Rattle.model.specs.Model.{Scheduler, flowAt}
+use Rattle.model.specs.declared.Sent.{Sent}
 use Rattle.account.specs.Stretch.{Waiting, BetweenTurns, turnThen, sumOf, onePlusMark}
 use Rattle.store.specs.Slots.{storeLength}
 use Rattle.store.specs.Calls.{storeDepart}

@@ -6,27 +6,27 @@ use native.Mathlib.Omega.{arith}
 use native.Mathlib.Decide.{decLt}
 use lib.ListN.{length, take, drop}
 use lib.Seq.{take-at}
-use Rattle.err.specs.Limits.{flowLimit, queueLimit, sizeLimit}
-use Rattle.err.specs.Choose.{ifZero}
-use Rattle.err.specs.Model.{Flow, Scheduler, flowAt, newScheduler}
-use Rattle.err.specs.Steps.{packetJoined, flowLined, nextSlotOf}
-use Rattle.err.specs.Calls.{put, openFlow, opened, openRefusal, offered, offerRefusal, departed, unlessRefused}
-use Rattle.err.specs.Replies.{sentBy}
-use Rattle.err.specs.Rules.{Rules}
-use Rattle.err.specs.declared.Reply.{Reply}
-use Rattle.err.specs.declared.Reply.the-variants.{Departure, Idle, Refused}
-use Rattle.err.specs.declared.Sent.{Sent}
-use Rattle.err.proofs.Flows.{at-others, first-in-range, here-now, beyond-closed}
-use Rattle.err.proofs.Refusals.{MayOpen, may-open, MayOffer, may-offer}
+use Rattle.model.specs.Limits.{flowLimit, queueLimit, sizeLimit}
+use Rattle.model.specs.Choose.{ifZero}
+use Rattle.model.specs.Model.{Flow, Scheduler, flowAt, newScheduler}
+use Rattle.model.specs.Steps.{packetJoined, flowLined, nextSlotOf}
+use Rattle.model.specs.Calls.{put, openFlow, opened, openRefusal, offered, offerRefusal, departed, unlessRefused}
+use Rattle.model.specs.Replies.{sentBy}
+use Rattle.model.specs.Rules.{Rules}
+use Rattle.model.specs.declared.Reply.{Reply}
+use Rattle.model.specs.declared.Reply.the-variants.{Departure, Idle, Refused}
+use Rattle.model.specs.declared.Sent.{Sent}
+use Rattle.model.proofs.Flows.{at-others, first-in-range, here-now, beyond-closed}
+use Rattle.model.proofs.Refusals.{MayOpen, may-open, MayOffer, may-offer}
 use Rattle.store.specs.Slots.{storeLength, written, held}
 use Rattle.store.specs.Calls.{AfterOffer, AfterDeparture, storeOffer, storeOfferRefusal, storeDepart, storeDepartRefusal}
 use Rattle.store.specs.Chain.{offering, departing, lent, back, Packet, stateAfter, storeAfter, accepting, leaving, putOut, taken, bytesOf, heldFrom, waitingBytes}
 use Rattle.store.proofs.SlotLaws.{held-length, written-length}
 use Rattle.store.proofs.CallLaws.{offer-may, offer-state, offer-refused, offer-stores, departs, depart-refused, depart-made, sent-departure}
-use Rattle.err.proofs.Departing.{Leaves, departed-leaves, idle-stays, never-refused}
-use Rattle.err.proofs.Choosing.{zero-chosen, chosen-has}
-use Rattle.err.proofs.Keeps.{new-closed}
-use Rattle.err.proofs.Line.{same-or-other}
+use Rattle.model.proofs.Departing.{Leaves, departed-leaves, idle-stays, never-refused}
+use Rattle.model.proofs.Choosing.{zero-chosen, chosen-has}
+use Rattle.model.proofs.Keeps.{new-closed}
+use Rattle.model.proofs.Line.{same-or-other}
 use Rattle.store.proofs.Lending.{lent-length, lent-whole, back-whole, back-untouched}
 use Rattle.store.proofs.WaitingLaws.{waiting-over-another-flow, waiting-with-one-more, bytes-of-own, bytes-of-another}
 

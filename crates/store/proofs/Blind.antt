@@ -5,11 +5,11 @@ use mathlib.Core.List.{List, [], _∷_, map}
 use mathlib.Core.Bool.{cond}
 use lib.ListN.{length, replicate, length-replicate}
 use lib.Dec.{ltb, eqb}
-use Rattle.err.specs.Choose.{ifZero}
-use Rattle.err.specs.Model.{Scheduler, flowAt}
-use Rattle.err.specs.Calls.{offerRefusal, offered, departed, answerOf}
-use Rattle.err.specs.Replies.{Said, ofAnswer, ofReply}
-use Rattle.err.specs.declared.Reply.the-variants.{Refused}
+use Rattle.model.specs.Choose.{ifZero}
+use Rattle.model.specs.Model.{Scheduler, flowAt}
+use Rattle.model.specs.Calls.{offerRefusal, offered, departed, answerOf}
+use Rattle.model.specs.Replies.{Said, ofAnswer, ofReply}
+use Rattle.model.specs.declared.Reply.the-variants.{Refused}
 use Rattle.store.specs.Slots.{storeLength, outLimit}
 use Rattle.store.specs.Calls.{storeOffer, storeOfferRefusal, storeDepart, storeDepartRefusal}
 use Rattle.store.specs.Chain.{StoreCall, resetting, opening, offering, departing, lent, History, start, next, chain, sayings, saying, stateAfter, blanked}

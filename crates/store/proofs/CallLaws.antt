@@ -8,15 +8,15 @@ use native.Mathlib.Decide.{decLt, ℕ-discrete}
 use lib.ListN.{length, drop}
 use lib.Dec.{ltb}
 use borrow.Author.Tests.{eq-eqb, ne-eqb, lt-ltb, le-ltb}
-use Rattle.err.specs.Choose.{ifZero}
-use Rattle.err.specs.Model.{Scheduler, flowAt}
-use Rattle.err.specs.Steps.{nextSlotOf}
-use Rattle.err.specs.Calls.{offerRefusal, offered, departed, answerOf, unlessRefused}
-use Rattle.err.specs.declared.Answer.the-variants.{Refused as AnswerRefused}
-use Rattle.err.specs.declared.Reply.{Reply}
-use Rattle.err.specs.declared.Reply.the-variants.{Departure, Idle, Refused}
-use Rattle.err.specs.declared.Sent.{Sent}
-use Rattle.err.proofs.Choosing.{zero-chosen, positive-chosen, chosen-twice}
+use Rattle.model.specs.Choose.{ifZero}
+use Rattle.model.specs.Model.{Scheduler, flowAt}
+use Rattle.model.specs.Steps.{nextSlotOf}
+use Rattle.model.specs.Calls.{offerRefusal, offered, departed, answerOf, unlessRefused}
+use Rattle.model.specs.declared.Answer.the-variants.{Refused as AnswerRefused}
+use Rattle.model.specs.declared.Reply.{Reply}
+use Rattle.model.specs.declared.Reply.the-variants.{Departure, Idle, Refused}
+use Rattle.model.specs.declared.Sent.{Sent}
+use Rattle.model.proofs.Choosing.{zero-chosen, positive-chosen, chosen-twice}
 use Rattle.store.specs.Slots.{storeLength, outLimit, written, held}
 use Rattle.store.specs.Calls.{storeOfferRefusal, storeOffer, storeDepartRefusal, storeDepart, sentOut}
 

@@ -4,11 +4,11 @@ use Prim.Native.Nat.{ℕ}
 use mathlib.Core.Path.{_≡_, ap}
 use mathlib.Core.List.{List}
 use lib.ListN.{length}
-use Rattle.err.specs.Model.{Scheduler, newScheduler}
-use Rattle.err.specs.Calls.{opened, offered, departed}
-use Rattle.err.specs.Rules.{Rules}
-use Rattle.err.proofs.Keeps.{new-keeps, opened-keeps, offered-keeps, departed-keeps}
-use Rattle.err.proofs.Choosing.{chosen-has}
+use Rattle.model.specs.Model.{Scheduler, newScheduler}
+use Rattle.model.specs.Calls.{opened, offered, departed}
+use Rattle.model.specs.Rules.{Rules}
+use Rattle.model.proofs.Keeps.{new-keeps, opened-keeps, offered-keeps, departed-keeps}
+use Rattle.model.proofs.Choosing.{chosen-has}
 use Rattle.order.proofs.StateLaws.{seen-as}
 use Rattle.store.specs.Calls.{storeOffer, storeOfferRefusal, storeDepart, storeDepartRefusal}
 use Rattle.store.specs.Promised.{schedulerOf, SoundSite, siteOf, answeredAs, departedAs, NewGives, OpenGives, OfferGives, DepartGives}

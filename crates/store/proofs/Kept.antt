@@ -4,8 +4,8 @@ use Prim.Native.Nat.{ℕ}
 use mathlib.Core.Path.{_≡_, sym, ap, _∙_}
 use mathlib.Core.List.{List, [], _∷_, _++_, append-assoc}
 use lib.ListN.{length}
-use Rattle.err.specs.Rules.{Rules}
-use Rattle.err.proofs.Keeps.{new-keeps, opened-keeps}
+use Rattle.model.specs.Rules.{Rules}
+use Rattle.model.proofs.Keeps.{new-keeps, opened-keeps}
 use Rattle.store.specs.Slots.{storeLength}
 use Rattle.store.specs.Chain.{StoreCall, resetting, opening, offering, departing, lent, Packet, History, start, next, chain, stateAfter, storeAfter, accepting, leaving, bytesOf, waitingBytes}
 use Rattle.store.proofs.Balances.{new-waits-for-nothing, open-balances, offer-balances, depart-balances}

@@ -7,9 +7,9 @@ use native.Mathlib.Omega.{arith}
 use native.Mathlib.Decide.{decLe}
 use lib.ListN.{length, take, drop, replicate, length-append, length-take, length-drop, length-replicate, take-append-drop, drop-of-length-le}
 use lib.Seq.{take-all, take-append-seam, length-take-le}
-use Rattle.err.specs.Model.{Scheduler, flowAt}
-use Rattle.err.proofs.Refusals.{MayOffer, may-offer}
-use Rattle.err.specs.Steps.{nextSlotOf}
+use Rattle.model.specs.Model.{Scheduler, flowAt}
+use Rattle.model.proofs.Refusals.{MayOffer, may-offer}
+use Rattle.model.specs.Steps.{nextSlotOf}
 use Rattle.store.specs.Calls.{storeOffer, storeOfferRefusal}
 use Rattle.store.specs.Chain.{StoreCall, resetting, opening, offering, departing, lent, back, storeAfter}
 use Rattle.store.proofs.CallLaws.{offer-may, offer-refused, offer-stores}

@@ -6,12 +6,12 @@ use mathlib.Core.List.{List, [], _∷_}
 use mathlib.Core.Bool.{Bool, true, false, cond}
 use lib.ListN.{length}
 use lib.Dec.{eqb, ltb}
-use Rattle.err.specs.Choose.{ifZero}
-use Rattle.err.specs.Model.{Scheduler, flowAt}
-use Rattle.err.specs.Calls.{offered, departed, unlessRefused, offerRefusal}
-use Rattle.err.specs.Chain as SizeCall
-use Rattle.err.proofs.Chains.{chain-append}
-use Rattle.err.proofs.Choosing.{chosen-twice}
+use Rattle.model.specs.Choose.{ifZero}
+use Rattle.model.specs.Model.{Scheduler, flowAt}
+use Rattle.model.specs.Calls.{offered, departed, unlessRefused, offerRefusal}
+use Rattle.model.specs.Chain as SizeCall
+use Rattle.model.proofs.Chains.{chain-append}
+use Rattle.model.proofs.Choosing.{chosen-twice}
 use Rattle.store.specs.Slots.{storeLength, outLimit}
 use Rattle.store.specs.Calls.{storeOffer, storeDepart}
 use Rattle.store.specs.Chain.{StoreCall, resetting, opening, offering, departing, stateAfter, History, start, next, chain, onSizes, allOnSizes}

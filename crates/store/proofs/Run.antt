@@ -4,9 +4,9 @@ use Prim.Native.Nat.{ℕ, zero, suc}
 use mathlib.Core.Path.{_≡_, refl, sym, ap, ap₂, _∙_}
 use mathlib.Core.List.{List, [], _∷_, _++_, append-nil}
 use lib.ListN.{length}
-use Rattle.err.specs.Choose.{ifZero}
-use Rattle.err.specs.Calls.{answerOf}
-use Rattle.err.specs.Model.{Scheduler}
+use Rattle.model.specs.Choose.{ifZero}
+use Rattle.model.specs.Calls.{answerOf}
+use Rattle.model.specs.Model.{Scheduler}
 use Rattle.store.specs.Slots.{storeLength}
 use Rattle.store.specs.Calls.{storeOffer, storeOfferRefusal}
 use Rattle.store.specs.Chain.{StoreCall, resetting, opening, offering, departing, lent, back, Packet, putOut, taken, History, start, next, chain, stateAfter, storeAfter, accepting, leaving, sinceReset, bytesOf, waitingBytes}

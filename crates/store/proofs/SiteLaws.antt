@@ -5,24 +5,24 @@ use mathlib.Core.List.{List, _++_}
 use native.Mathlib.Omega.{arith}
 use lib.ListN.{length, getD, take, drop}
 use lib.Seq.{take-all, length-take-le}
-use Rattle.err.specs.Limits.{flowLimit, queueLimit, sizeLimit}
-use Rattle.err.specs.Model.{Scheduler, flowAt}
-use Rattle.err.specs.Choose.{ifZero}
-use Rattle.err.specs.Steps.{nextSlotOf, whose}
-use Rattle.err.specs.Calls.{offerRefusal, departed, answerOf}
-use Rattle.err.specs.Rules.{Rules}
-use Rattle.err.specs.declared.Answer.the-variants.{Refused as AnswerRefused}
-use Rattle.err.specs.declared.Reply.{Reply}
-use Rattle.err.specs.declared.Reply.the-variants.{Refused}
-use Rattle.err.proofs.Departing.{Leaves, departed-leaves, SendsOrStays, sends, stays, sends-or-stays}
-use Rattle.err.proofs.Flows.{first-small}
-use Rattle.err.proofs.Refusals.{MayOffer, may-offer}
-use Rattle.err.proofs.Standing.{nobody-waits, whose-in-reach}
-use Rattle.order.specs.Places.{endPlace, nowhere, firstPlace, leavingPlace}
+use Rattle.model.specs.Limits.{flowLimit, queueLimit, sizeLimit}
+use Rattle.model.specs.Model.{Scheduler, flowAt}
+use Rattle.model.specs.Choose.{ifZero}
+use Rattle.model.specs.Steps.{nextSlotOf, whose}
+use Rattle.model.specs.Calls.{offerRefusal, departed, answerOf}
+use Rattle.model.specs.Rules.{Rules}
+use Rattle.model.specs.declared.Answer.the-variants.{Refused as AnswerRefused}
+use Rattle.model.specs.declared.Reply.{Reply}
+use Rattle.model.specs.declared.Reply.the-variants.{Refused}
+use Rattle.model.proofs.Departing.{Leaves, departed-leaves, SendsOrStays, sends, stays, sends-or-stays}
+use Rattle.model.proofs.Flows.{first-small}
+use Rattle.model.proofs.Refusals.{MayOffer, may-offer}
+use Rattle.model.proofs.Standing.{nobody-waits, whose-in-reach}
+use Rattle.steps.specs.Places.{endPlace, nowhere, firstPlace, leavingPlace}
 use Rattle.order.specs.Promised as order
 use Rattle.order.specs.declared.Answered.{Answered}
 use Rattle.order.specs.declared.Departed.{Departed}
-use Rattle.order.specs.declared.Place.{Place}
+use Rattle.steps.specs.declared.Place.{Place}
 use Rattle.order.specs.declared.Placed.{Placed}
 use Rattle.order.specs.declared.State.{State}
 use Rattle.store.specs.Slots.{storeLength, outLimit, written, held}

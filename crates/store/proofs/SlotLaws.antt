@@ -7,7 +7,7 @@ use native.Mathlib.Omega.{arith}
 use native.Mathlib.Decide.{decLe}
 use lib.ListN.{length, take, drop, length-append, length-drop, take-append-drop, drop-of-length-le}
 use lib.Seq.{take-all, length-take-le, take-append-le, drop-append-le, drop-append-add, drop-drop, take-append-seam, drop-at}
-use Rattle.err.specs.Limits.{flowLimit, queueLimit, sizeLimit}
+use Rattle.model.specs.Limits.{flowLimit, queueLimit, sizeLimit}
 use Rattle.store.specs.Slots.{storeLength, slotStart, written, held}
 
 -- Nothing is held in no bytes, and writing none changes nothing.

@@ -3,20 +3,20 @@ use Prim.Native.Nat.{ℕ, zero, suc}
 use mathlib.Core.Path.{_≡_, refl, sym, ap, _∙_}
 use mathlib.Core.List.{List, [], _∷_}
 use native.Mathlib.Omega.{arith}
-use Rattle.err.specs.Model.{Scheduler}
-use Rattle.err.specs.Calls.{opened, departed}
-use Rattle.err.specs.Replies.{sentBy}
-use Rattle.err.specs.declared.Answer.the-variants.{Refused as AnswerRefused}
-use Rattle.err.specs.declared.Reply.{Reply}
-use Rattle.err.specs.declared.Reply.the-variants.{Departure, Idle, Refused}
+use Rattle.model.specs.Model.{Scheduler}
+use Rattle.model.specs.Calls.{opened, departed}
+use Rattle.model.specs.Replies.{sentBy}
+use Rattle.model.specs.declared.Answer.the-variants.{Refused as AnswerRefused}
+use Rattle.model.specs.declared.Reply.{Reply}
+use Rattle.model.specs.declared.Reply.the-variants.{Departure, Idle, Refused}
 use Rattle.store.specs.Calls.{storeOffer, storeOfferRefusal, storeDepart, storeDepartRefusal}
 use Rattle.store.specs.Promised.{schedulerOf, SoundSite, siteOf, answeredAs, departedAs, OpenGives, OfferGives, DepartGives}
 use Rattle.store.specs.declared.Site.{Site}
 use Rattle.store.specs.declared.SiteAnswered.{SiteAnswered}
 use Rattle.store.specs.declared.SiteDeparted.{SiteDeparted}
 use Rattle.store.proofs.CallLaws.{refused-number, offer-refused, offer-number, depart-refused, depart-made, sent-nothing}
-use Rattle.err.proofs.Demand2.{refused-open-changes-nothing as refused-open-stays}
-use Rattle.err.proofs.Departing.{idle-stays, never-refused}
+use Rattle.model.proofs.Demand2.{refused-open-changes-nothing as refused-open-stays}
+use Rattle.model.proofs.Departing.{idle-stays, never-refused}
 use Rattle.store.proofs.SiteLaws.{site-form}
 
 -- Of the definitions' calls.

@@ -7,9 +7,9 @@ use native.Mathlib.Omega.{arith}
 use lib.ListN.{length}
 use lib.Dec.{eqb}
 use borrow.Author.Tests.{eq-eqb, ne-eqb}
-use Rattle.err.specs.Limits.{flowLimit, queueLimit, sizeLimit}
-use Rattle.err.specs.Steps.{nextSlot}
-use Rattle.err.specs.Rules.{Sizes, none, one}
+use Rattle.model.specs.Limits.{flowLimit, queueLimit, sizeLimit}
+use Rattle.model.specs.Steps.{nextSlot}
+use Rattle.model.specs.Rules.{Sizes, none, one}
 use Rattle.store.specs.Slots.{storeLength, written, held}
 use Rattle.store.specs.Chain.{Packet, bytesOf, heldFrom}
 use Rattle.store.proofs.SlotLaws.{held-where-written, held-over-another-flow, held-over-another-slot}

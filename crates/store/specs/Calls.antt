@@ -4,13 +4,13 @@ use mathlib.Core.List.{List, _++_}
 use mathlib.Core.Bool.{cond}
 use lib.ListN.{length, drop}
 use lib.Dec.{ltb, eqb}
-use Rattle.err.specs.Choose.{ifZero}
-use Rattle.err.specs.Model.{Scheduler, flowAt}
-use Rattle.err.specs.Steps.{nextSlotOf}
-use Rattle.err.specs.Calls.{offerRefusal, offered, departed, answerOf}
-use Rattle.err.specs.declared.Answer.{Answer}
-use Rattle.err.specs.declared.Reply.{Reply}
-use Rattle.err.specs.declared.Reply.the-variants.{Departure, Idle, Refused}
+use Rattle.model.specs.Choose.{ifZero}
+use Rattle.model.specs.Model.{Scheduler, flowAt}
+use Rattle.model.specs.Steps.{nextSlotOf}
+use Rattle.model.specs.Calls.{offerRefusal, offered, departed, answerOf}
+use Rattle.model.specs.declared.Answer.{Answer}
+use Rattle.model.specs.declared.Reply.{Reply}
+use Rattle.model.specs.declared.Reply.the-variants.{Departure, Idle, Refused}
 use Rattle.store.specs.Slots.{storeLength, outLimit, written, held}
 
 -- What a store offer gives: the state, the store and an answer.

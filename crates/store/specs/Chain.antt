@@ -4,15 +4,15 @@ use mathlib.Core.List.{List, [], _∷_, _++_, map}
 use mathlib.Core.Bool.{cond}
 use lib.ListN.{length, take, drop, replicate}
 use lib.Dec.{eqb, ltb}
-use Rattle.err.specs.Choose.{ifZero}
-use Rattle.err.specs.Model.{Scheduler, flowAt, newScheduler}
-use Rattle.err.specs.Steps.{nextSlot}
-use Rattle.err.specs.Calls.{opened}
-use Rattle.err.specs.Replies.{Said, told, ofAnswer, ofReply, sentBy}
-use Rattle.err.specs.declared.Reply.{Reply}
-use Rattle.err.specs.declared.Sent.{Sent}
-use Rattle.err.specs.Chain.{Call}
-use Rattle.err.specs.Chain as SizeCall
+use Rattle.model.specs.Choose.{ifZero}
+use Rattle.model.specs.Model.{Scheduler, flowAt, newScheduler}
+use Rattle.model.specs.Steps.{nextSlot}
+use Rattle.model.specs.Calls.{opened}
+use Rattle.model.specs.Replies.{Said, told, ofAnswer, ofReply, sentBy}
+use Rattle.model.specs.declared.Reply.{Reply}
+use Rattle.model.specs.declared.Sent.{Sent}
+use Rattle.model.specs.Chain.{Call}
+use Rattle.model.specs.Chain as SizeCall
 use Rattle.store.specs.Slots.{held, storeLength, outLimit}
 use Rattle.store.specs.Calls.{AfterDeparture, storeOfferRefusal, storeOffer, storeDepart}
 

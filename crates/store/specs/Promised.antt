@@ -3,10 +3,10 @@
 use Prim.Native.Nat.{ℕ}
 use mathlib.Core.Path.{_≡_}
 use mathlib.Core.List.{List}
-use Rattle.err.specs.Model.{Scheduler, newScheduler}
-use Rattle.err.specs.Calls.{opened}
-use Rattle.err.specs.declared.Answer.{Answer}
-use Rattle.err.specs.declared.Reply.{Reply}
+use Rattle.model.specs.Model.{Scheduler, newScheduler}
+use Rattle.model.specs.Calls.{opened}
+use Rattle.model.specs.declared.Answer.{Answer}
+use Rattle.model.specs.declared.Reply.{Reply}
 use Rattle.order.specs.Encoding.{encode, view, Sound}
 use Rattle.store.specs.Calls.{storeOffer, storeDepart}
 use Rattle.store.specs.declared.Site.{Site}

@@ -2,8 +2,8 @@
 -- outgoing buffers tell.
 use Prim.Native.Nat.{ℕ}
 use mathlib.Core.List.{List, [], _∷_, _++_}
-use Rattle.err.specs.declared.Answer.{Answer}
-use Rattle.err.specs.declared.Answer.the-variants.{Done, Refused}
+use Rattle.model.specs.declared.Answer.{Answer}
+use Rattle.model.specs.declared.Answer.the-variants.{Done, Refused}
 use Rattle.store.specs.Promised.{NewGives, OpenGives, OfferGives, DepartGives}
 use Rattle.store.specs.Chain.{StoreCall, resetting, opening, offering, departing, lent, back, Packet, putOut}
 use Rattle.store.specs.declared.Site.{Site}

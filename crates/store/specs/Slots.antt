@@ -3,7 +3,7 @@
 use Prim.Native.Nat.{ℕ, _+_, _*_}
 use mathlib.Core.List.{List, _++_}
 use lib.ListN.{length, take, drop}
-use Rattle.err.specs.Limits.{sizeLimit}
+use Rattle.model.specs.Limits.{sizeLimit}
 
 -- the store is exactly 65,536 bytes
 abbrev pub storeLength : ℕ

@@ -1,9 +1,9 @@
 // The calls on packet bytes: document 01's store layer. A site is a scheduler whose packets lie in one store: only open, reset and the store
 // calls drive it. The store is the caller's, and is lent to each call.
 ghost use Rattle.store.specs.Promised.{SoundSite, NewGives, OpenGives, OfferGives, DepartGives};
-use err::Answer;
-use err::Reply;
-use err::SIZE_LIMIT;
+use model::Answer;
+use model::Reply;
+use model::SIZE_LIMIT;
 use order::State;
 
 mod bytes;

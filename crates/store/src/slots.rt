@@ -3,11 +3,11 @@ ghost use mathlib.Core.Path.{_≡_};
 ghost use mathlib.Core.List.{_++_};
 ghost use Prim.Native.Nat.{_≤_, _<_};
 ghost use lib.ListN.{length, drop};
-ghost use Rattle.err.specs.Limits.{flowLimit, queueLimit, sizeLimit};
+ghost use Rattle.model.specs.Limits.{flowLimit, queueLimit, sizeLimit};
 ghost use Rattle.store.specs.Slots.{storeLength, outLimit, slotStart, written, held};
 use crate::bytes::copy_in;
-use err::QUEUE_LIMIT;
-use err::SIZE_LIMIT;
+use model::QUEUE_LIMIT;
+use model::SIZE_LIMIT;
 
 // The byte at which slot k of flow f begins.
 fn start(f: usize, k: usize) -> usize

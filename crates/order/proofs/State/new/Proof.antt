@@ -1,7 +1,8 @@
 -- Every cell is that of a flow that is not open.
 use Rattle.order.proofs.StateLaws.{new-gives}
-use Rattle.err.specs.Model.{newScheduler}
-use Rattle.order.specs.Encoding.{cells, packed, encodeFlow, encode}
+use Rattle.model.specs.Model.{newScheduler}
+use Rattle.steps.specs.Cells.{cells, packed, encodeFlow}
+use Rattle.order.specs.Encoding.{encode}
 use Rattle.order.proofs.State.new.Statement.{statement}
 use Rattle.order.proofs.State.new.Tie as tie
 

@@ -1,7 +1,7 @@
 -- The part of the store from the slot's start to the packet's end is copied to the start of the outgoing buffer.
 use native.Mathlib.Omega.{arith}
 use borrow.Author.Needs.{needs}
-use Rattle.err.specs.Limits.{sizeLimit}
+use Rattle.model.specs.Limits.{sizeLimit}
 use Rattle.store.proofs.SlotLaws.{slot-in-store, read-law}
 use Rattle.store.proofs.slots.read.Statement.{statement}
 use Rattle.store.proofs.slots.read.Tie as tie

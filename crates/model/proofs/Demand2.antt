@@ -1,0 +1,128 @@
+-- Demand 2 on sizes, over any list of calls from a new scheduler.
+use Prim.Native.Nat.{ℕ, zero, suc}
+use mathlib.Core.Path.{_≡_, refl, sym, ap, _∙_}
+use mathlib.Core.List.{List, [], _∷_, _++_, append-nil, append-assoc, map-append}
+use mathlib.Core.Logic.{_↔_}
+use native.Mathlib.Omega.{arith}
+use lib.ListN.{length, replicate}
+use Rattle.model.specs.Choose.{ifZero}
+use Rattle.model.specs.Model.{Flow, Scheduler, flowAt}
+use Rattle.model.specs.Steps.{whose}
+use Rattle.model.specs.Calls.{opened, offered, departed, departures, burst, burstMade, unlessRefused, openRefusal, offerRefusal, burstRefusal}
+use Rattle.model.specs.Rules.{Rules}
+use Rattle.model.specs.Replies.{sentBy}
+use Rattle.model.specs.Chain.{Call, resetting, opening, offering, departing, bursting, after, accepting, leaving, History, start, next, chain, Packet, sizesOf, packetsOf}
+use Rattle.model.specs.declared.Answer.the-variants.{Refused as AnswerRefused}
+use Rattle.model.specs.declared.Count.{Count}
+use Rattle.model.specs.declared.Count.the-variants.{Refused as CountRefused}
+use Rattle.model.specs.declared.Reply.the-variants.{Departure, Idle}
+use Rattle.model.specs.declared.Sent.{Sent}
+use Rattle.model.proofs.Keeps.{new-closed, new-keeps}
+use Rattle.model.proofs.Departing.{departed-leaves, SendsOrStays, sends, stays, sends-or-stays, idle-stays}
+use Rattle.model.proofs.Chains.{chain-keeps, chain-holds, single-calls-make-departures}
+use Rattle.model.proofs.Queues.{sizes-append, departed-queue, departures-queue, opened-queue, offered-queue}
+use Rattle.model.proofs.Standing.{nobody-waits}
+
+-- Every state that calls give keeps document 01's rules.
+pub every-state-keeps-the-rules : (calls : List Call) → Rules (chain start calls .state)
+unfolding start
+every-state-keeps-the-rules calls = chain-keeps start calls new-keeps
+
+-- What was accepted of flow f is what has left of it followed by what waits.
+abbrev Balanced : History → ℕ → Type 0
+Balanced h f = sizesOf f (h .accepted) ≡ sizesOf f (packetsOf (h .left)) ++ flowAt (h .state) f .queue
+
+-- A call that accepts a, sends l and leaves q waiting, where w waited.
+balance-moves : (f : ℕ) (accepted a : List Packet) (left l : List Sent) (w q : List ℕ) → sizesOf f accepted ≡ sizesOf f (packetsOf left) ++ w
+    → w ++ sizesOf f a ≡ sizesOf f (packetsOf l) ++ q → sizesOf f (accepted ++ a) ≡ sizesOf f (packetsOf (left ++ l)) ++ q
+balance-moves f accepted a left l w q B e =
+    sizes-append f accepted a
+    ∙ ap (λ (k : List ℕ). k ++ sizesOf f a) B
+    ∙ append-assoc (sizesOf f (packetsOf left)) w (sizesOf f a)
+    ∙ ap (λ (k : List ℕ). sizesOf f (packetsOf left) ++ k) e
+    ∙ sym (append-assoc (sizesOf f (packetsOf left)) (sizesOf f (packetsOf l)) q)
+    ∙ ap (λ (k : List ℕ). k ++ q) (sym (ap (sizesOf f) (map-append (λ (d : Sent). record { flow = d .flow; size = d .size }) left l) ∙ sizes-append f (packetsOf left) (packetsOf l)))
+
+next-balanced : (h : History) (c : Call) → Rules (h .state) → (f : ℕ) → Balanced h f → Balanced (next h c) f
+unfolding next after accepting leaving sizesOf burst burstMade
+next-balanced h resetting R f B = sym (ap (λ (y : Flow). y .queue) (new-closed f))
+next-balanced h (opening g weight) R f B =
+    balance-moves f (h .accepted) [] (h .left) [] (flowAt (h .state) f .queue) _ B
+    (append-nil (flowAt (h .state) f .queue) ∙ sym (opened-queue (h .state) g weight R f))
+next-balanced h (offering g size) R f B =
+    balance-moves f (h .accepted) (accepting (h .state) (offering g size)) (h .left) [] (flowAt (h .state) f .queue) _ B
+    (sym (offered-queue (h .state) g size R f))
+next-balanced h departing R f B =
+    balance-moves f (h .accepted) [] (h .left) (sentBy (departed (h .state) .reply)) (flowAt (h .state) f .queue) _ B
+    (append-nil (flowAt (h .state) f .queue) ∙ departed-queue (h .state) R f)
+next-balanced h (bursting n list) R f B = by (burstRefusal n list) (CountRefused (burstRefusal n list))
+  where
+    s : Scheduler
+    s = h .state
+
+    by : (k : ℕ) (c : Count)
+        → sizesOf f (h .accepted ++ [])
+        ≡ sizesOf f (packetsOf (h .left ++ ifZero k (departures n s .sent) []))
+        ++ flowAt (ifZero k (burstMade list (departures n s)) (record { state = s; list = list; reply = c }) .state) f .queue
+    by zero c =
+        balance-moves f (h .accepted) [] (h .left) (departures n s .sent) (flowAt s f .queue) _ B (append-nil (flowAt s f .queue) ∙ departures-queue n s R f)
+    by (suc k) c = balance-moves f (h .accepted) [] (h .left) [] (flowAt s f .queue) _ B (append-nil (flowAt s f .queue))
+
+-- Since the last reset, what was accepted for a flow is what has departed of it followed by what waits, in order.
+pub nothing-lost : (calls : List Call) (f : ℕ)
+    → sizesOf f (chain start calls .accepted) ≡ sizesOf f (packetsOf (chain start calls .left)) ++ flowAt (chain start calls .state) f .queue
+unfolding start sizesOf
+nothing-lost calls f =
+    chain-holds (λ (h : History). Balanced h f) (λ h c R B. next-balanced h c R f B) start calls new-keeps (sym (ap (λ (y : Flow). y .queue) (new-closed f)))
+
+-- A departure is of the flow of the open turn or, with none open, of the head of the line; it is that flow's first packet.
+pub departs-the-first : (s : Scheduler) (d : Sent) → Rules s → departed s .reply ≡ Departure d
+    → (d .flow ≡ whose (s .round)) × (flowAt s (d .flow) .queue ≡ d .size ∷ flowAt (departed s .state) (d .flow) .queue)
+departs-the-first s d R e = let L = departed-leaves s R d e in (L .had-the-turn, L .first-in-queue)
+
+-- Idle exactly when nothing waits.
+pub idle-when-nothing-waits : (s : Scheduler) → Rules s → (departed s .reply ≡ Idle) ↔ ((f : ℕ) → flowAt s f .queue ≡ [])
+idle-when-nothing-waits s R = (λ e. only e (sends-or-stays s), λ h. if h (sends-or-stays s))
+  where
+    only : departed s .reply ≡ Idle → SendsOrStays s → (f : ℕ) → flowAt s f .queue ≡ []
+    only e (sends d i) = let z : _≡_ {A = ℕ} 0 1 = cc in absurd (omega arith)
+    only e (stays i same t l) = nobody-waits s R t l
+
+    if : ((f : ℕ) → flowAt s f .queue ≡ []) → SendsOrStays s → departed s .reply ≡ Idle
+    if h (sends d i) = absurd (omega (arith, ap length (departed-leaves s R d i .first-in-queue), ap length (h (d .flow))))
+    if h (stays i same t l) = i
+
+-- Idle gives back the state as it was.
+pub idle-changes-nothing : (s : Scheduler) → departed s .reply ≡ Idle → departed s .state ≡ s
+idle-changes-nothing s e = idle-stays s e
+
+-- A refusal gives back the state as it was, and burst's the list too.
+unless-refused : (n : ℕ) (s t : Scheduler) (k : ℕ) → unlessRefused n s t .reply ≡ AnswerRefused k → unlessRefused n s t .state ≡ s
+unfolding unlessRefused
+unless-refused zero s t k e = let z : _≡_ {A = ℕ} 0 1 = cc in absurd (omega arith)
+unless-refused (suc n) s t k e = refl
+
+pub refused-open-changes-nothing : (s : Scheduler) (f weight k : ℕ) → opened s f weight .reply ≡ AnswerRefused k → opened s f weight .state ≡ s
+unfolding opened
+refused-open-changes-nothing s f weight k e = unless-refused (openRefusal f weight (flowAt s f)) s _ k e
+
+pub refused-offer-changes-nothing : (s : Scheduler) (f size k : ℕ) → offered s f size .reply ≡ AnswerRefused k → offered s f size .state ≡ s
+unfolding offered
+refused-offer-changes-nothing s f size k e = unless-refused (offerRefusal f size (flowAt s f)) s _ k e
+
+pub refused-burst-changes-nothing : (s : Scheduler) (n : ℕ) (list : List ℕ) (k : ℕ) → burst s n list .reply ≡ CountRefused k
+    → (burst s n list .state ≡ s) × (burst s n list .list ≡ list)
+unfolding burst burstMade
+refused-burst-changes-nothing s n list k e = by (burstRefusal n list) (CountRefused (burstRefusal n list)) e
+  where
+    by : (m : ℕ) (c : Count) → ifZero m (burstMade list (departures n s)) (record { state = s; list = list; reply = c }) .reply ≡ CountRefused k
+        → (ifZero m (burstMade list (departures n s)) (record { state = s; list = list; reply = c }) .state ≡ s)
+        × (ifZero m (burstMade list (departures n s)) (record { state = s; list = list; reply = c }) .list ≡ list)
+    by zero c i = let z : _≡_ {A = ℕ} 0 1 = cc in absurd (omega arith)
+    by (suc m) c i = (refl, refl)
+
+-- N single calls make the departures that a burst of N makes, and leave its state: those after the first idle are idle too.
+pub burst-as-single-calls : (n : ℕ) (h : History)
+    → chain h (replicate n departing)
+    ≡ record { state = departures n (h .state) .state; accepted = h .accepted; left = h .left ++ departures n (h .state) .sent }
+burst-as-single-calls n h = single-calls-make-departures n h

@@ -1,0 +1,109 @@
+// Steps 2 to 6, on the round and the flow whose turn it is.
+ghost use mathlib.Core.Path.{_≡_};
+ghost use mathlib.Core.List.{List};
+ghost use lib.ListN.{getD};
+ghost use Prim.Native.Nat.{ℕ};
+ghost use Rattle.model.specs.Steps.{served as servedOf, visit as visitOf, visitBy, whose as whoseOf};
+ghost use Rattle.model.specs.declared.Serving.the-variants.{NoTurn};
+ghost use Rattle.steps.specs.Cells.{viewFlow};
+ghost use Rattle.steps.specs.Premises.{inPlace, viewRound, RoundReady, MayServe, MayBegin, MayVisit, visitInPlace, encodeVisit};
+use crate::FlowCell;
+use crate::LINE_ROOM;
+use crate::RoundCell;
+use crate::Visited;
+use crate::flow;
+use crate::round;
+use model::Reply;
+use model::Sent;
+use model::Serving;
+
+// Steps 3 to 6, in an open turn of flow f.
+fn served(
+    line: &mut [u8; LINE_ROOM],
+    r: RoundCell,
+    x: FlowCell,
+    f: u8,
+    allowed: u16,
+    sent: u16,
+) -> Visited
+    requires { ⌜ MayServe (inPlace (now line) r) x allowed sent ⌝ }
+    ensures { λ v. ⌜ visitInPlace (now (line .exit)) v ≡ encodeVisit (servedOf (viewRound (inPlace (now (line .entry)) r)) (viewFlow x) f allowed sent) ⌝ }
+{
+    let size = flow::first_size(x);
+    let total = sent + size;
+    let left = flow::first_left(x);
+    let reply = Reply::Departure(Sent {
+        flow: f,
+        size: size,
+        mark: r.mark,
+        allowance: allowed,
+    });
+    if left.waiting == 0 {
+        let over = round::turn_emptied(r, left, allowed, total);
+        let bare = flow::cleared(left);
+        return Visited {
+            round: over,
+            flow: bare,
+            reply: reply,
+        };
+    }
+    if allowed <= total {
+        let closed = round::turn_closed(line, r, left, f, allowed, total);
+        let kept = flow::excess_kept(left, allowed, total);
+        return Visited {
+            round: closed,
+            flow: kept,
+            reply: reply,
+        };
+    }
+    let open = round::turn_kept(r, f, allowed, total);
+    Visited {
+        round: open,
+        flow: left,
+        reply: reply,
+    }
+}
+
+// Steps 2 to 6, for the flow at the head of the line.
+fn begun(line: &mut [u8; LINE_ROOM], r: RoundCell, x: FlowCell) -> Visited
+    requires { ⌜ MayBegin (inPlace (now line) r) x ⌝ }
+    ensures { λ v. ⌜ visitInPlace (now (line .exit)) v ≡ encodeVisit (visitBy NoTurn (viewRound (inPlace (now (line .entry)) r) .line) (viewRound (inPlace (now (line .entry)) r)) (viewFlow x)) ⌝ }
+{
+    let f = line[0];
+    let now = round::started(r);
+    let allowed = round::allowance(x.weight, now.mark, x.surplus);
+    let open = round::turn_opened(line, now, f, allowed);
+    served(line, open, flow::cleared(x), f, allowed, 0)
+}
+
+pub fn visit(line: &mut [u8; LINE_ROOM], r: RoundCell, x: FlowCell) -> Visited
+    requires { ⌜ MayVisit (inPlace (now line) r) x ⌝ }
+    ensures { λ v. ⌜ visitInPlace (now (line .exit)) v ≡ encodeVisit (visitOf (viewRound (inPlace (now (line .entry)) r)) (viewFlow x)) ⌝ }
+{
+    let turn = r.turn;
+    match turn {
+        Serving::Turn(f, allowed, sent) => served(line, r, x, f, allowed, sent),
+        Serving::NoTurn => {
+            if r.length == 0 {
+                Visited {
+                    round: r,
+                    flow: x,
+                    reply: Reply::Idle,
+                }
+            } else {
+                begun(line, r, x)
+            }
+        }
+    }
+}
+
+// The flow that a departure concerns, where `head` is the line's first cell.
+pub fn whose(head: u8, r: RoundCell) -> usize
+    ensures { λ f. ⌜ ((line : List ℕ) → RoundReady (inPlace line r) → head ≡ getD line 0 0 → f ≡ whoseOf (viewRound (inPlace line r))) ⌝ }
+{
+    let turn = r.turn;
+    match turn {
+        Serving::Turn(f, _, _) => f as usize,
+        Serving::NoTurn => head as usize,
+    }
+}
