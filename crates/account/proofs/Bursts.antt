@@ -21,30 +21,6 @@ use Rattle.model.proofs.Chains.{chain-append, single-calls-make-departures}
 use Rattle.account.specs.Stretch.{Waiting, WaitingAfterEvery, sentIn, turnThen, turnsOf, completing, turnsIn, singly, oneByOne}
 use Rattle.account.proofs.Runs.{waited-before-all}
 
--- ---- where nothing was sent nothing will be
-
-abbrev SendsNothing : Reply → Type 0
-SendsNothing (Departure d) = ⊥
-SendsNothing Idle = Unit {0}
-SendsNothing (Refused k) = Unit {0}
-
-record Still (n : ℕ) (s : Scheduler) : Type 0 where
-  state-stays : departures n s .state ≡ s
-  nothing-sent : departures n s .sent ≡ []
-  no-turn-completed : turnsOf n s ≡ []
-
-idle-is-still : (n : ℕ) (s : Scheduler) → departed s .reply ≡ Idle → departed s .state ≡ s → Still n s
-unfolding departures andThen turnsOf turnThen
-idle-is-still zero s e q = record { state-stays = refl; nothing-sent = refl; no-turn-completed = refl }
-idle-is-still (suc n) s e q = record { state-stays = rw e q; nothing-sent = rw e; no-turn-completed = rw e }
-
-still-after : (n : ℕ) (s : Scheduler) → SendsNothing (departed s .reply) → Still n (departed s .state)
-still-after n s nothing = go (sends-or-stays s)
-  where
-    go : SendsOrStays s → Still n (departed s .state)
-    go (sends d e) = absurd (subst SendsNothing e nothing)
-    go (stays e q t l) = subst (Still n) (sym q) (idle-is-still n s e q)
-
 -- ---- a burst, one departure at a time
 
 abbrev historyOf : Scheduler → List Packet → List Sent → History

@@ -8,28 +8,29 @@ use lib.ListN.{length, replicate}
 use Rattle.model.specs.Choose.{ifZero}
 use Rattle.model.specs.Model.{Flow, Scheduler, flowAt}
 use Rattle.model.specs.Steps.{whose}
-use Rattle.model.specs.Calls.{opened, offered, departed, departures, burst, burstMade, unlessRefused, openRefusal, offerRefusal, burstRefusal}
+use Rattle.model.specs.Calls.{Burst, opened, offered, departed, departures, burst, burstMade, unlessRefused, openRefusal, offerRefusal, burstRefusal}
 use Rattle.model.specs.Rules.{Rules}
-use Rattle.model.specs.Replies.{sentBy}
-use Rattle.model.specs.Chain.{Call, resetting, opening, offering, departing, bursting, after, accepting, leaving, History, start, next, chain, Packet, sizesOf, packetsOf}
+use Rattle.model.specs.Replies.{sentBy, takenBy, madeBy}
+use Rattle.model.specs.Chain.{moved, next, chain}
+use Rattle.model.specs.OrderCalls.{Call, resetting, opening, offering, departing, bursting, does, orderCalls, Packet, sizesOf, packetsOf}
 use Rattle.model.specs.declared.Answer.the-variants.{Refused as AnswerRefused}
 use Rattle.model.specs.declared.Count.{Count}
 use Rattle.model.specs.declared.Count.the-variants.{Refused as CountRefused}
 use Rattle.model.specs.declared.Reply.the-variants.{Departure, Idle}
 use Rattle.model.specs.declared.Sent.{Sent}
+use Rattle.model.proofs.Choosing.{chosen-has}
 use Rattle.model.proofs.Keeps.{new-closed, new-keeps}
 use Rattle.model.proofs.Departing.{departed-leaves, SendsOrStays, sends, stays, sends-or-stays, idle-stays}
-use Rattle.model.proofs.Chains.{chain-keeps, chain-holds, single-calls-make-departures}
+use Rattle.model.proofs.Chains.{OrderHistory, start, chain-keeps, chain-holds}
 use Rattle.model.proofs.Queues.{sizes-append, departed-queue, departures-queue, opened-queue, offered-queue}
 use Rattle.model.proofs.Standing.{nobody-waits}
 
 -- Every state that calls give keeps document 01's rules.
-pub every-state-keeps-the-rules : (calls : List Call) → Rules (chain start calls .state)
-unfolding start
+pub every-state-keeps-the-rules : (calls : List Call) → Rules (chain orderCalls start calls .state)
 every-state-keeps-the-rules calls = chain-keeps start calls new-keeps
 
 -- What was accepted of flow f is what has left of it followed by what waits.
-abbrev Balanced : History → ℕ → Type 0
+abbrev Balanced : OrderHistory → ℕ → Type 0
 Balanced h f = sizesOf f (h .accepted) ≡ sizesOf f (packetsOf (h .left)) ++ flowAt (h .state) f .queue
 
 -- A call that accepts a, sends l and leaves q waiting, where w waited.
@@ -43,37 +44,35 @@ balance-moves f accepted a left l w q B e =
     ∙ sym (append-assoc (sizesOf f (packetsOf left)) (sizesOf f (packetsOf l)) q)
     ∙ ap (λ (k : List ℕ). k ++ q) (sym (ap (sizesOf f) (map-append (λ (d : Sent). record { flow = d .flow; size = d .size }) left l) ∙ sizes-append f (packetsOf left) (packetsOf l)))
 
-next-balanced : (h : History) (c : Call) → Rules (h .state) → (f : ℕ) → Balanced h f → Balanced (next h c) f
-unfolding next after accepting leaving sizesOf burst burstMade
+next-balanced : (h : OrderHistory) (c : Call) → Rules (h .state) → (f : ℕ) → Balanced h f → Balanced (next orderCalls h c) f
+unfolding next moved does sizesOf burst burstMade
 next-balanced h resetting R f B = sym (ap (λ (y : Flow). y .queue) (new-closed f))
 next-balanced h (opening g weight) R f B =
     balance-moves f (h .accepted) [] (h .left) [] (flowAt (h .state) f .queue) _ B
     (append-nil (flowAt (h .state) f .queue) ∙ sym (opened-queue (h .state) g weight R f))
 next-balanced h (offering g size) R f B =
-    balance-moves f (h .accepted) (accepting (h .state) (offering g size)) (h .left) [] (flowAt (h .state) f .queue) _ B
+    balance-moves f (h .accepted) (takenBy (offered (h .state) g size .reply) (record { flow = g; size = size })) (h .left) [] (flowAt (h .state) f .queue) _ B
     (sym (offered-queue (h .state) g size R f))
 next-balanced h departing R f B =
     balance-moves f (h .accepted) [] (h .left) (sentBy (departed (h .state) .reply)) (flowAt (h .state) f .queue) _ B
     (append-nil (flowAt (h .state) f .queue) ∙ departed-queue (h .state) R f)
-next-balanced h (bursting n list) R f B = by (burstRefusal n list) (CountRefused (burstRefusal n list))
+next-balanced h (bursting n list) R f B =
+    chosen-has
+    (λ (b : Burst).
+    sizesOf f (h .accepted ++ []) ≡ sizesOf f (packetsOf (h .left ++ madeBy (b .reply) (departures n s .sent))) ++ flowAt (b .state) f .queue)
+    (burstRefusal n list) (burstMade list (departures n s)) _
+    (λ e. balance-moves f (h .accepted) [] (h .left) (departures n s .sent) (flowAt s f .queue) _ B (append-nil (flowAt s f .queue) ∙ departures-queue n s R f))
+    (balance-moves f (h .accepted) [] (h .left) [] (flowAt s f .queue) _ B (append-nil (flowAt s f .queue)))
   where
     s : Scheduler
     s = h .state
 
-    by : (k : ℕ) (c : Count)
-        → sizesOf f (h .accepted ++ [])
-        ≡ sizesOf f (packetsOf (h .left ++ ifZero k (departures n s .sent) []))
-        ++ flowAt (ifZero k (burstMade list (departures n s)) (record { state = s; list = list; reply = c }) .state) f .queue
-    by zero c =
-        balance-moves f (h .accepted) [] (h .left) (departures n s .sent) (flowAt s f .queue) _ B (append-nil (flowAt s f .queue) ∙ departures-queue n s R f)
-    by (suc k) c = balance-moves f (h .accepted) [] (h .left) [] (flowAt s f .queue) _ B (append-nil (flowAt s f .queue))
-
 -- Since the last reset, what was accepted for a flow is what has departed of it followed by what waits, in order.
 pub nothing-lost : (calls : List Call) (f : ℕ)
-    → sizesOf f (chain start calls .accepted) ≡ sizesOf f (packetsOf (chain start calls .left)) ++ flowAt (chain start calls .state) f .queue
-unfolding start sizesOf
+    → sizesOf f (chain orderCalls start calls .accepted) ≡ sizesOf f (packetsOf (chain orderCalls start calls .left)) ++ flowAt (chain orderCalls start calls .state) f .queue
+unfolding sizesOf
 nothing-lost calls f =
-    chain-holds (λ (h : History). Balanced h f) (λ h c R B. next-balanced h c R f B) start calls new-keeps (sym (ap (λ (y : Flow). y .queue) (new-closed f)))
+    chain-holds (λ (h : OrderHistory). Balanced h f) (λ h c R B. next-balanced h c R f B) start calls new-keeps (sym (ap (λ (y : Flow). y .queue) (new-closed f)))
 
 -- A departure is of the flow of the open turn or, with none open, of the head of the line; it is that flow's first packet.
 pub departs-the-first : (s : Scheduler) (d : Sent) → Rules s → departed s .reply ≡ Departure d
@@ -120,9 +119,3 @@ refused-burst-changes-nothing s n list k e = by (burstRefusal n list) (CountRefu
         × (ifZero m (burstMade list (departures n s)) (record { state = s; list = list; reply = c }) .list ≡ list)
     by zero c i = let z : _≡_ {A = ℕ} 0 1 = cc in absurd (omega arith)
     by (suc m) c i = (refl, refl)
-
--- N single calls make the departures that a burst of N makes, and leave its state: those after the first idle are idle too.
-pub burst-as-single-calls : (n : ℕ) (h : History)
-    → chain h (replicate n departing)
-    ≡ record { state = departures n (h .state) .state; accepted = h .accepted; left = h .left ++ departures n (h .state) .sent }
-burst-as-single-calls n h = single-calls-make-departures n h

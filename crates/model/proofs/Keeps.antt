@@ -18,7 +18,7 @@ use Rattle.model.specs.declared.Reply.the-variants.{Departure, Idle, Ref
 use Rattle.model.specs.declared.Serving.{Serving}
 use Rattle.model.specs.declared.Serving.the-variants.{NoTurn, Turn}
 use Rattle.model.specs.Choose.{ifEmpty}
-use Rattle.model.specs.Chain.{Call, resetting, opening, offering, departing, bursting, after}
+use Rattle.model.specs.OrderCalls.{Call, resetting, opening, offering, departing, bursting, does}
 use Rattle.model.proofs.Choosing.{chosen-has}
 use Rattle.model.proofs.Parts.{flowMadeOf, roundMadeOf}
 use Rattle.model.proofs.Refusals.{MayOpen, may-open, MayOffer, may-offer}
@@ -327,8 +327,8 @@ pub burst-keeps : (s : Scheduler) (n : ℕ) (list : List ℕ) → Rules s → Ru
 burst-keeps = burst-holds Rules departed-keeps
 
 -- Whatever the call, the state that it gives back keeps the rules.
-pub every-call-keeps : (s : Scheduler) (c : Call) → Rules s → Rules (after s c)
-unfolding after
+pub every-call-keeps : (s : Scheduler) (c : Call) → Rules s → Rules (does s c .state)
+unfolding does
 every-call-keeps s resetting R = new-keeps
 every-call-keeps s (opening f weight) R = opened-keeps s f weight R
 every-call-keeps s (offering f size) R = offered-keeps s f size R

@@ -19,3 +19,4 @@ pub mod Told
 pub mod Chains
 pub mod Demand2
 pub mod Slots
+pub mod Following

@@ -8,10 +8,10 @@ use borrow.Author.Tests.{eq-eqb, ne-eqb}
 use Rattle.model.specs.Choose.{ifZero}
 use Rattle.model.specs.Model.{Flow, Round, Scheduler, flowAt}
 use Rattle.model.specs.Steps.{packetJoined, flowLined}
-use Rattle.model.specs.Calls.{put, openFlow, opened, offered, departed, departures, andThen, unlessRefused, openRefusal, offerRefusal}
+use Rattle.model.specs.Calls.{put, openFlow, opened, offered, departed, departures, andThen, unlessRefused, answerOf, openRefusal, offerRefusal}
 use Rattle.model.specs.Rules.{Rules}
-use Rattle.model.specs.Replies.{sentBy}
-use Rattle.model.specs.Chain.{offering, accepting, Packet, sizesOf, packetsOf}
+use Rattle.model.specs.Replies.{sentBy, takenBy}
+use Rattle.model.specs.OrderCalls.{Packet, sizesOf, packetsOf}
 use Rattle.model.specs.declared.Reply.{Reply}
 use Rattle.model.specs.declared.Reply.the-variants.{Departure, Idle, Refused}
 use Rattle.model.proofs.Refusals.{MayOpen, may-open, may-offer}
@@ -88,8 +88,8 @@ opened-queue s f weight R g =
 
 -- An accepted packet joins the end of its flow's queue.
 pub offered-queue : (s : Scheduler) (f size : ℕ) → Rules s → (g : ℕ)
-    → flowAt (offered s f size .state) g .queue ≡ flowAt s g .queue ++ sizesOf g (accepting s (offering f size))
-unfolding offered unlessRefused accepting packetJoined sizesOf
+    → flowAt (offered s f size .state) g .queue ≡ flowAt s g .queue ++ sizesOf g (takenBy (offered s f size .reply) (record { flow = f; size = size }))
+unfolding offered unlessRefused packetJoined sizesOf
 offered-queue s f size R g = by (offerRefusal f size (flowAt s f)) refl
   where
     x : Flow
@@ -102,7 +102,7 @@ offered-queue s f size R g = by (offerRefusal f size (flowAt s f)) refl
     nothing = refl
 
     by : (n : ℕ) → offerRefusal f size (flowAt s f) ≡ n
-        → flowAt (ifZero n (put s f x r) s) g .queue ≡ flowAt s g .queue ++ sizesOf g (ifZero n (record { flow = f; size = size } ∷ []) [])
+        → flowAt (ifZero n (put s f x r) s) g .queue ≡ flowAt s g .queue ++ sizesOf g (takenBy (answerOf n) (record { flow = f; size = size }))
     by zero e =
         same-or-other (λ h. flowAt (put s f x r) h .queue ≡ flowAt s h .queue ++ sizesOf h (record { flow = f; size = size } ∷ [])) f g
         (ap (λ (y : Flow). y .queue) (here-now s R (may-offer f size (flowAt s f) e .flow-in-range) x r)

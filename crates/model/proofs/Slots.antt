@@ -9,7 +9,9 @@ use Rattle.model.specs.Model.{Flow, Scheduler, flowAt, newScheduler}
 use Rattle.model.specs.Steps.{nextSlotOf, packetJoined}
 use Rattle.model.specs.Calls.{put, openFlow, opened, offered, departed, burst, unlessRefused, openRefusal, offerRefusal}
 use Rattle.model.specs.Rules.{Rules}
-use Rattle.model.specs.Chain.{Call, resetting, opening, offering, departing, bursting, after, accepting, History, start, next, chain, Packet, sizesOf}
+use Rattle.model.specs.Replies.{takenBy}
+use Rattle.model.specs.Chain.{moved, next, chain}
+use Rattle.model.specs.OrderCalls.{Call, resetting, opening, offering, departing, bursting, does, orderCalls, Packet, sizesOf}
 use Rattle.model.proofs.Choosing.{chosen-has}
 use Rattle.model.proofs.Refusals.{MayOpen, may-open}
 use Rattle.model.proofs.Line.{same-or-other}
@@ -17,7 +19,7 @@ use Rattle.model.proofs.Flows.{at-others, here-now, put-relates}
 use Rattle.model.proofs.Keeps.{new-closed, new-keeps, offered-keeps, departed-keeps, burst-holds}
 use Rattle.model.proofs.Departing.{Leaves, departed-leaves, SendsOrStays, sends, stays, sends-or-stays}
 use Rattle.model.proofs.Queues.{sizes-append, offered-queue}
-use Rattle.model.proofs.Chains.{chain-holds}
+use Rattle.model.proofs.Chains.{OrderHistory, start, chain-holds}
 
 -- Of a flow's packets n were accepted: the next takes slot n mod 8, and a flow that is not open has had none, so that opening it may begin at slot 0.
 record InTurn (x : Flow) (n : ℕ) : Type 0 where
@@ -51,9 +53,13 @@ offered-weight-and-slot s g size f =
     (λ e. put-relates (λ x y. (y .weight ≡ x .weight) × (y .slot ≡ x .slot)) (λ x. (refl, refl)) (s .flows) g (packetJoined (flowAt s g) size) (refl, refl) f)
     (refl, refl)
 
+-- The packet that an offer accepts, if it does.
+abbrev taken : Scheduler → ℕ → ℕ → List Packet
+taken s f size = takenBy (offered s f size .reply) (record { flow = f; size = size })
+
 -- What an offer adds to a queue was accepted; where it leaves the flow closed, the queue is empty, so it added none.
 offered-in-turn : (s : Scheduler) (g size : ℕ) → Rules s → (f n : ℕ) → InTurn (flowAt s f) n
-    → InTurn (flowAt (offered s g size .state) f) (n + length (sizesOf f (accepting s (offering g size))))
+    → InTurn (flowAt (offered s g size .state) f) (n + length (sizesOf f (taken s g size)))
 offered-in-turn s g size R f n T =
     record {
       next-slot = omega (arith, joined, offered-weight-and-slot s g size f);
@@ -62,8 +68,8 @@ offered-in-turn s g size R f n T =
           omega (arith, joined, ap length (offered-keeps s g size R .flow-rules f .open-if-waiting e));
     }
   where
-    joined : length (flowAt (offered s g size .state) f .queue) ≡ length (flowAt s f .queue) + length (sizesOf f (accepting s (offering g size)))
-    joined = ap length (offered-queue s g size R f) ∙ length-append (flowAt s f .queue) (sizesOf f (accepting s (offering g size)))
+    joined : length (flowAt (offered s g size .state) f .queue) ≡ length (flowAt s f .queue) + length (sizesOf f (taken s g size))
+    joined = ap length (offered-queue s g size R f) ∙ length-append (flowAt s f .queue) (sizesOf f (taken s g size))
 
 -- A packet that leaves moves its flow's slot on by one, and its queue is shorter by one: the slot of the next to come stays.
 departed-in-turn : (s : Scheduler) → Rules s → (f n : ℕ) → InTurn (flowAt s f) n → InTurn (flowAt (departed s .state) f) n
@@ -83,16 +89,16 @@ burst-in-turn s k list R f n T =
     burst-holds (λ (t : Scheduler). Rules t × InTurn (flowAt t f) n) (λ t p. (departed-keeps t (p .0), departed-in-turn t (p .0) f n (p .1))) s k list (R, T) .1
 
 -- The packets of flow f that were accepted since the last reset.
-abbrev acceptedOf : History → ℕ → ℕ
+abbrev acceptedOf : OrderHistory → ℕ → ℕ
 acceptedOf h f = length (sizesOf f (h .accepted))
 
-next-in-turn : (h : History) (c : Call) → Rules (h .state) → (f : ℕ) → InTurn (flowAt (h .state) f) (acceptedOf h f)
-    → InTurn (flowAt (next h c .state) f) (acceptedOf (next h c) f)
-unfolding next after accepting sizesOf
+next-in-turn : (h : OrderHistory) (c : Call) → Rules (h .state) → (f : ℕ) → InTurn (flowAt (h .state) f) (acceptedOf h f)
+    → InTurn (flowAt (next orderCalls h c .state) f) (acceptedOf (next orderCalls h c) f)
+unfolding next moved does sizesOf
 next-in-turn h resetting R f T = new-in-turn f
 next-in-turn h (opening g weight) R f T = rw (append-nil (h .accepted)) (opened-in-turn (h .state) g weight R f (acceptedOf h f) T)
 next-in-turn h (offering g size) R f T =
-    let a : List Packet = accepting (h .state) (offering g size) in
+    let a : List Packet = taken (h .state) g size in
     rw (ap length (sizes-append f (h .accepted) a) ∙ length-append (sizesOf f (h .accepted)) (sizesOf f a))
     (offered-in-turn (h .state) g size R f (acceptedOf h f) T)
 next-in-turn h departing R f T = rw (append-nil (h .accepted)) (departed-in-turn (h .state) R f (acceptedOf h f) T)
@@ -100,8 +106,8 @@ next-in-turn h (bursting k list) R f T = rw (append-nil (h .accepted)) (burst-in
 
 -- Packet k of a flow since the last reset, counted from 0, takes slot k mod 8.
 pub slots-in-turn : (calls : List Call) (f : ℕ)
-    → nextSlotOf (flowAt (chain start calls .state) f) ≡ length (sizesOf f (chain start calls .accepted)) % queueLimit
-unfolding start sizesOf
+    → nextSlotOf (flowAt (chain orderCalls start calls .state) f) ≡ length (sizesOf f (chain orderCalls start calls .accepted)) % queueLimit
+unfolding sizesOf
 slots-in-turn calls f =
-    chain-holds (λ (h : History). InTurn (flowAt (h .state) f) (acceptedOf h f)) (λ h c R T. next-in-turn h c R f T) start calls new-keeps (new-in-turn f)
+    chain-holds (λ (h : OrderHistory). InTurn (flowAt (h .state) f) (acceptedOf h f)) (λ h c R T. next-in-turn h c R f T) start calls new-keeps (new-in-turn f)
     .next-slot

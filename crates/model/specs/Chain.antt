@@ -1,95 +1,81 @@
--- Chains of calls: each call works on the state that the one before it left.
+-- Chains of calls of any kind: each call works on the state that the one before it left.
 use Prim.Native.Nat.{ℕ}
-use mathlib.Core.List.{List, [], _∷_, _++_, map}
-use mathlib.Core.Bool.{cond}
-use lib.Dec.{eqb}
-use Rattle.model.specs.Choose.{ifZero}
-use Rattle.model.specs.Model.{Scheduler, flowAt, newScheduler}
-use Rattle.model.specs.Calls.{opened, offered, departed, departures, burst, offerRefusal, burstRefusal}
-use Rattle.model.specs.Replies.{Said, told, ofAnswer, ofReply, ofCount, sentBy}
+use mathlib.Core.List.{List, [], _∷_, _++_}
+use mathlib.Core.Bool.{Bool, true, false, cond}
+use Rattle.model.specs.Model.{Scheduler}
+use Rattle.model.specs.Replies.{Said, told}
 use Rattle.model.specs.declared.Sent.{Sent}
 
-pub data Call : Type 0 where
-  resetting : Call
-  opening : ℕ → ℕ → Call
-  offering : ℕ → ℕ → Call
-  departing : Call
-  bursting : ℕ → List ℕ → Call
+-- What its caller sees of a call: what it says, the list or outgoing buffer lent to it as it then is, the packets that it accepts, those that leave, and
+-- whether it forgets what came before it.
+pub record Seen (P D : Type 0) : Type 0 where
+  pub says : Said
+  pub lent : List ℕ
+  pub accepts : List P
+  pub sends : List D
+  pub forgets : Bool
 
--- The state that a call gives back.
-unfoldable pub after : Scheduler → Call → Scheduler
-after s resetting = newScheduler
-after s (opening f weight) = opened s f weight .state
-after s (offering f size) = offered s f size .state
-after s departing = departed s .state
-after s (bursting n list) = burst s n list .state
+module _ {P D : Type 0} where
+  -- A reset, which says nothing; an open or an offer; a departure or a burst.
+  abbrev pub seenReset : Seen P D
+  seenReset = record { says = told []; lent = []; accepts = []; sends = []; forgets = true }
 
--- What it says.
-unfoldable pub saying : Scheduler → Call → Said
-saying s resetting = told []
-saying s (opening f weight) = ofAnswer (opened s f weight .reply)
-saying s (offering f size) = ofAnswer (offered s f size .reply)
-saying s departing = ofReply (departed s .reply)
-saying s (bursting n list) = ofCount (burst s n list .reply)
+  abbrev pub seenAsking : Said → List P → Seen P D
+  seenAsking says accepts = record { says = says; lent = []; accepts = accepts; sends = []; forgets = false }
 
--- What the calls say, one after the other.
-unfoldable pub sayings : Scheduler → List Call → List Said
-sayings s [] = []
-sayings s (c ∷ calls) = saying s c ∷ sayings (after s c) calls
+  abbrev pub seenDeparting : Said → List ℕ → List D → Seen P D
+  seenDeparting says lent sends = record { says = says; lent = lent; accepts = []; sends = sends; forgets = false }
 
-pub record Packet : Type 0 where
-  pub flow : ℕ
-  pub size : ℕ
+-- What a call does: the state that it gives back, what is seen of it, and the turns that it completes, each told by its last departure.
+pub record Effect (S P D : Type 0) : Type 0 where
+  pub state : S
+  pub seen : Seen P D
+  pub completes : List Sent
 
--- The packets that it accepts.
-unfoldable pub accepting : Scheduler → Call → List Packet
-accepting s resetting = []
-accepting s (opening f weight) = []
-accepting s (offering f size) = ifZero (offerRefusal f size (flowAt s f)) (record { flow = f; size = size } ∷ []) []
-accepting s departing = []
-accepting s (bursting n list) = []
-
--- The departures that it makes, in order.
-unfoldable pub leaving : Scheduler → Call → List Sent
-leaving s resetting = []
-leaving s (opening f weight) = []
-leaving s (offering f size) = []
-leaving s departing = sentBy (departed s .reply)
-leaving s (bursting n list) = ifZero (burstRefusal n list) (departures n s .sent) []
-
--- A reset begins a history anew.
-abbrev pub sinceReset : {A : Type 0} → Call → List A → List A
-sinceReset resetting l = []
-sinceReset (opening f weight) l = l
-sinceReset (offering f size) l = l
-sinceReset departing l = l
-sinceReset (bursting n list) l = l
+-- A kind of calls: what they work on, what they accept and send, what each does, and on what a chain of them begins; of a state its scheduler, and of
+-- what is sent its flow and size.
+pub record Kind : Type 1 where
+  pub State : Type 0
+  pub Call : Type 0
+  pub Packet : Type 0
+  pub Departure : Type 0
+  pub does : State → Call → Effect State Packet Departure
+  pub New : State → Type 0
+  pub scheduler : State → Scheduler
+  pub flowOf : Departure → ℕ
+  pub sizeOf : Departure → ℕ
 
 -- A state, with what was accepted and what has left since the last reset.
-pub record History : Type 0 where
-  pub state : Scheduler
-  pub accepted : List Packet
-  pub left : List Sent
+pub record History (S P D : Type 0) : Type 0 where
+  pub state : S
+  pub accepted : List P
+  pub left : List D
 
-unfoldable pub start : History
-start = record { state = newScheduler; accepted = []; left = [] }
+module _ {S P D : Type 0} where
+  abbrev pub begin : S → History S P D
+  begin s = record { state = s; accepted = []; left = [] }
 
-unfoldable pub next : History → Call → History
-next h c =
-    record {
-      state = after (h .state) c;
-      accepted = sinceReset c (h .accepted) ++ accepting (h .state) c;
-      left = sinceReset c (h .left) ++ leaving (h .state) c;
-    }
+  -- After a call that gave back this state and of which this was seen.
+  unfoldable pub moved : History S P D → S → Seen P D → History S P D
+  moved h s e =
+      record { state = s; accepted = cond (e .forgets) [] (h .accepted) ++ e .accepts; left = cond (e .forgets) [] (h .left) ++ e .sends }
 
-unfoldable pub chain : History → List Call → History
-chain h [] = h
-chain h (c ∷ calls) = chain (next h c) calls
+module _ (K : Kind) where
+  abbrev pub HistoryOf : Type 0
+  HistoryOf = History (K .State) (K .Packet) (K .Departure)
 
--- The sizes of the packets of flow f, in order.
-unfoldable pub sizesOf : ℕ → List Packet → List ℕ
-sizesOf f [] = []
-sizesOf f (p ∷ l) = cond (eqb (p .flow) f) (p .size ∷ []) [] ++ sizesOf f l
+  unfoldable pub next : HistoryOf → K .Call → HistoryOf
+  next h c = moved h (K .does (h .state) c .state) (K .does (h .state) c .seen)
 
-abbrev pub packetsOf : List Sent → List Packet
-packetsOf sent = map (λ (d : Sent). record { flow = d .flow; size = d .size }) sent
+  unfoldable pub chain : HistoryOf → List (K .Call) → HistoryOf
+  chain h [] = h
+  chain h (c ∷ calls) = chain (next h c) calls
+
+  -- A part of what each call does, one call after the other.
+  unfoldable pub over : {A : Type 0} → (Effect (K .State) (K .Packet) (K .Departure) → List A) → K .State → List (K .Call) → List A
+  over part s [] = []
+  over part s (c ∷ calls) = part (K .does s c) ++ over part (K .does s c .state) calls
+
+  -- What is seen of each call.
+  abbrev pub seenOver : K .State → List (K .Call) → List (Seen (K .Packet) (K .Departure))
+  seenOver s calls = over (λ (e : Effect (K .State) (K .Packet) (K .Departure)). e .seen ∷ []) s calls

@@ -38,3 +38,13 @@ abbrev pub sentBy : Reply → List Sent
 sentBy (Departure d) = d ∷ []
 sentBy Idle = []
 sentBy (Refused n) = []
+
+-- What is offered, where the answer accepts it.
+abbrev pub takenBy : {A : Type 0} → Answer → A → List A
+takenBy Done packet = packet ∷ []
+takenBy (AnswerRefused n) packet = []
+
+-- What a burst makes, where it is not refused.
+abbrev pub madeBy : {A : Type 0} → Count → List A → List A
+madeBy (Made n) l = l
+madeBy (CountRefused n) l = []

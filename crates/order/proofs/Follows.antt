@@ -1,93 +1,131 @@
--- Whatever calls are made, in whatever order, the states handed back are those of the model's chain of the same calls.
-use Prim.Native.Nat.{ℕ, _≤_}
-use mathlib.Core.Path.{_≡_, refl, sym, ap, ap₂, _∙_}
+-- Each call of the code does what the model's call does, on the scheduler that its state stands for.
+use Prim.Native.Nat.{ℕ, zero, suc, _≤_}
+use mathlib.Core.Path.{_≡_, refl, sym, ap, ap₂, _∙_, subst}
 use mathlib.Core.List.{List, [], _∷_, _++_}
 use Rattle.model.specs.Model.{Scheduler, newScheduler}
-use Rattle.model.specs.Rules.{count, standing}
-use Rattle.model.specs.Replies.{Said, ofAnswer, ofReply, ofCount}
-use Rattle.model.specs.Calls.{opened, offered, departed, burst}
-use Rattle.model.specs.Chain.{Call, resetting, opening, offering, departing, bursting, History, start, next, chain, after, saying, sayings}
-use Rattle.model.proofs.Demand2.{every-state-keeps-the-rules}
+use Rattle.model.specs.Rules.{Rules, count, standing}
+use Rattle.model.specs.Replies.{ofAnswer, ofReply, ofCount, sentBy, takenBy, madeBy}
+use Rattle.model.specs.Calls.{opened, offered, departed, departures, andThen, burst}
+use Rattle.model.specs.Chain.{Seen, seenAsking, seenDeparting}
+use Rattle.model.specs.OrderCalls.{Call, Packet, resetting, opening, offering, departing, bursting, does, orderCalls}
+use Rattle.model.specs.declared.Reply.{Reply}
+use Rattle.model.specs.declared.Reply.the-variants.{Departure, Idle, Refused}
+use Rattle.model.specs.declared.Sent.{Sent}
+use Rattle.model.proofs.Keeps.{new-keeps, every-call-keeps, departed-keeps}
 use Rattle.model.proofs.Standing.{never-twice}
-use Rattle.model.proofs.Chains.{chain-append, sayings-end}
+use Rattle.model.proofs.Following.{Follows}
+use Rattle.model.proofs.Chains.{SendsNothing, Still, still-after}
 use Rattle.order.specs.Encoding.{encode, view, Sound}
-use Rattle.order.specs.Promised.{answeredAs, offeredAs, departedAs, countedAs}
-use Rattle.order.specs.Runs.{Run, begins, then-resets, then-opens, then-offers, then-departs, then-bursts}
+use Rattle.order.specs.Promised.{NewGives, DepartGives, answeredAs, offeredAs, departedAs, countedAs}
+use Rattle.order.specs.Runs.{Singles, none, one-more, Does, resets, opens, offers, departs, bursts}
 use Rattle.order.specs.declared.State.{State}
 use Rattle.order.specs.declared.Answered.{Answered}
 use Rattle.order.specs.declared.Departed.{Departed}
 use Rattle.order.specs.declared.Placed.{Placed}
 use Rattle.order.specs.declared.Counted.{Counted}
-use Rattle.order.proofs.StateLaws.{seen-as}
+use Rattle.order.proofs.StateLaws.{seen-as, sound-of, depart-seen}
 
--- The scheduler that stands behind the state after these calls.
-abbrev pub behind : List Call → Scheduler
-behind calls = chain start calls .state
+-- A state stands for a scheduler that keeps the rules.
+pub record Stands (c : State) (s : Scheduler) : Type 0 where
+  pub form : c ≡ encode s
+  pub rules : Rules s
 
-behind-one-more : (calls : List Call) (c : Call) → behind (calls ++ (c ∷ [])) ≡ after (behind calls) c
-unfolding chain next
-behind-one-more calls c = ap (λ (h : History). h .state) (chain-append start calls (c ∷ []))
+pub new-stands : {c : State} → NewGives c → Stands c newScheduler
+new-stands g = record { form = g .outcome; rules = new-keeps }
 
-view-is : (calls : List Call) {c : State} → c ≡ encode (behind calls) → view c ≡ behind calls
-view-is calls = seen-as (every-state-keeps-the-rules calls)
+pub stands-for : {c : State} {s : Scheduler} → Stands c s → view c ≡ s
+stands-for S = seen-as (S .rules) (S .form)
 
-one-more : (calls : List Call) (c : Call) {said : List Said} {last : Said} → said ≡ sayings newScheduler calls → last ≡ saying (behind calls) c
-    → said ++ (last ∷ []) ≡ sayings newScheduler (calls ++ (c ∷ []))
-unfolding start
-one-more calls c a b = ap₂ (λ (l : List Said) (t : Said). l ++ (t ∷ [])) a b ∙ sym (sayings-end start calls c)
+-- It meets the premise of every call.
+pub sound-of-standing : {c : State} {s : Scheduler} → Stands c s → Sound c
+sound-of-standing {c} {s} S = subst Sound (sym (S .form)) (sound-of s (S .rules))
 
-pub follows-the-model : {calls : List Call} {c : State} {said : List Said} → Run calls c said → c ≡ encode (behind calls)
-unfolding after answeredAs offeredAs departedAs countedAs chain start
-follows-the-model (begins g) = g .outcome
-follows-the-model (then-resets {calls} run g) = g .outcome ∙ ap encode (sym (behind-one-more calls resetting))
-follows-the-model (then-opens {calls} {c} {said} {f} {weight} run g) =
-    ap (λ (r : Answered). r .state) (g .outcome)
-    ∙ ap (λ (s : Scheduler). encode (opened s f weight .state)) (view-is calls (follows-the-model run))
-    ∙ ap encode (sym (behind-one-more calls (opening f weight)))
-follows-the-model (then-offers {calls} {c} {said} {f} {size} run g) =
-    ap (λ (r : Placed). r .state) (g .outcome)
-    ∙ ap (λ (s : Scheduler). encode (offered s f size .state)) (view-is calls (follows-the-model run))
-    ∙ ap encode (sym (behind-one-more calls (offering f size)))
-follows-the-model (then-departs {calls} {c} run g) =
-    ap (λ (r : Departed). r .state) (g .outcome)
-    ∙ ap (λ (s : Scheduler). encode (departed s .state)) (view-is calls (follows-the-model run))
-    ∙ ap encode (sym (behind-one-more calls departing))
-follows-the-model (then-bursts {calls} {c} {said} {n} {before} run g) =
-    ap (λ (r : Counted). r .state) (g .outcome)
-    ∙ ap (λ (s : Scheduler). encode (burst s n before .state)) (view-is calls (follows-the-model run))
-    ∙ ap encode (sym (behind-one-more calls (bursting n before)))
+-- One scheduler has one form.
+pub same-form : {c d : State} {s : Scheduler} → Stands c s → Stands d s → c ≡ d
+same-form S T = S .form ∙ sym (T .form)
 
--- And what the calls say is what the model's calls say.
-pub says-as-the-model : {calls : List Call} {c : State} {said : List Said} → Run calls c said → said ≡ sayings newScheduler calls
-unfolding saying sayings answeredAs offeredAs departedAs countedAs start
-says-as-the-model (begins g) = refl
-says-as-the-model (then-resets {calls} run g) = one-more calls resetting (says-as-the-model run) refl
-says-as-the-model (then-opens {calls} {c} {said} {f} {weight} run g) =
-    one-more calls (opening f weight) (says-as-the-model run)
-    (ap (λ (r : Answered). ofAnswer (r .answer)) (g .outcome)
-    ∙ ap (λ (s : Scheduler). ofAnswer (opened s f weight .reply)) (view-is calls (follows-the-model run)))
-says-as-the-model (then-offers {calls} {c} {said} {f} {size} run g) =
-    one-more calls (offering f size) (says-as-the-model run)
-    (ap (λ (r : Placed). ofAnswer (r .answer)) (g .outcome)
-    ∙ ap (λ (s : Scheduler). ofAnswer (offered s f size .reply)) (view-is calls (follows-the-model run)))
-says-as-the-model (then-departs {calls} {c} run g) =
-    one-more calls departing (says-as-the-model run)
-    (ap (λ (r : Departed). ofReply (r .reply)) (g .outcome)
-    ∙ ap (λ (s : Scheduler). ofReply (departed s .reply)) (view-is calls (follows-the-model run)))
-says-as-the-model (then-bursts {calls} {c} {said} {n} {before} run g) =
-    one-more calls (bursting n before) (says-as-the-model run)
-    (ap (λ (r : Counted). ofCount (r .count)) (g .outcome)
-    ∙ ap (λ (s : Scheduler). ofCount (burst s n before .reply)) (view-is calls (follows-the-model run)))
+-- ---- single departure calls make the departures of the model
 
--- So the premise of the next call holds after any calls.
-pub premise-always-holds : {calls : List Call} {c : State} {said : List Said} → Run calls c said → Sound c
-premise-always-holds (begins g) = g .sound
-premise-always-holds (then-resets run g) = g .sound
-premise-always-holds (then-opens run g) = g .sound
-premise-always-holds (then-offers run g) = g .sound
-premise-always-holds (then-departs run g) = g .sound
-premise-always-holds (then-bursts run g) = g .sound
+record Made (n : ℕ) (s : Scheduler) (sent : List Sent) (t : State) : Type 0 where
+  sent-made : sent ≡ departures n s .sent
+  leads-to : t ≡ encode (departures n s .state)
 
--- The old chooser's fault is impossible: after any calls, no flow stands in line twice, nor in line while it has the turn.
-pub no-controller-in-line-twice : {calls : List Call} {c : State} {said : List Said} → Run calls c said → (f : ℕ) → count f (standing (view c .round)) ≤ 1
-no-controller-in-line-twice {calls} {c} run f = never-twice (view c) (premise-always-holds run .rules) f
+-- After one call that replied so, on what the others make.
+made-behind : (n : ℕ) (s t : Scheduler) (reply : Reply) (sent : List Sent) (c : State) → (SendsNothing reply → Still n t) → Made n t sent c
+    → (sentBy reply ++ sent ≡ andThen reply t (departures n t) .sent) × (c ≡ encode (andThen reply t (departures n t) .state))
+unfolding andThen
+made-behind n s t (Departure d) sent c still M = (ap (λ (l : List Sent). d ∷ l) (M .sent-made), M .leads-to)
+made-behind n s t Idle sent c still M = (M .sent-made ∙ still tt .nothing-sent, M .leads-to ∙ ap encode (still tt .state-stays))
+made-behind n s t (Refused k) sent c still M = (M .sent-made ∙ still tt .nothing-sent, M .leads-to ∙ ap encode (still tt .state-stays))
+
+singles-made : {n : ℕ} {c t : State} {sent : List Sent} → Singles n c sent t → (s : Scheduler) → Stands c s → Made n s sent t
+unfolding departures departedAs
+singles-made none s S = record { sent-made = refl; leads-to = S .form }
+singles-made (one-more {n} {c} {t} {r} {sent} g more) s S =
+    let reply-is : r .reply ≡ departed s .reply = ap (λ (d : Departed). d .reply) (g .outcome) ∙ ap (λ (k : Scheduler). departed k .reply) (stands-for S) in
+    let then : Stands (r .state) (departed s .state) =
+    record {
+      form = ap (λ (d : Departed). d .state) (g .outcome) ∙ ap (λ (k : Scheduler). encode (departed k .state)) (stands-for S);
+      rules = departed-keeps s (S .rules);
+    } in
+    let both = made-behind n s (departed s .state) (departed s .reply) sent t (still-after n s) (singles-made more (departed s .state) then) in
+    record { sent-made = ap (λ (k : Reply). sentBy k ++ sent) reply-is ∙ both .0; leads-to = both .1 }
+
+-- ---- every call
+
+pub follows : (c : State) (s : Scheduler) (call : Call) (t : State) (e : Seen Packet Sent) → Stands c s → Does c call t e → Follows orderCalls Does Stands s call t e
+unfolding does answeredAs offeredAs departedAs countedAs
+follows c s call t e S (resets g) = record { stands-then = new-stands g; seen-same = refl }
+follows c s call t e S (opens {f} {weight} g) =
+    record {
+      stands-then =
+          record {
+            form = ap (λ (a : Answered). a .state) (g .outcome) ∙ ap (λ (k : Scheduler). encode (opened k f weight .state)) (stands-for S);
+            rules = every-call-keeps s (opening f weight) (S .rules);
+          };
+      seen-same =
+          ap (λ (a : Answered). seenAsking (ofAnswer (a .answer)) []) (g .outcome)
+          ∙ ap (λ (k : Scheduler). seenAsking (ofAnswer (opened k f weight .reply)) []) (stands-for S);
+    }
+follows c s call t e S (offers {f} {size} g) =
+    record {
+      stands-then =
+          record {
+            form = ap (λ (a : Placed). a .state) (g .outcome) ∙ ap (λ (k : Scheduler). encode (offered k f size .state)) (stands-for S);
+            rules = every-call-keeps s (offering f size) (S .rules);
+          };
+      seen-same =
+          ap (λ (a : Placed). seenAsking (ofAnswer (a .answer)) (takenBy (a .answer) (record { flow = f; size = size }))) (g .outcome)
+          ∙ ap (λ (k : Scheduler). seenAsking (ofAnswer (offered k f size .reply)) (takenBy (offered k f size .reply) (record { flow = f; size = size }))) (stands-for S);
+    }
+follows c s call t e S (departs g) =
+    record {
+      stands-then =
+          record {
+            form = ap (λ (a : Departed). a .state) (g .outcome) ∙ ap (λ (k : Scheduler). encode (departed k .state)) (stands-for S);
+            rules = every-call-keeps s departing (S .rules);
+          };
+      seen-same =
+          ap (λ (a : Departed). seenDeparting (ofReply (a .reply)) [] (sentBy (a .reply))) (g .outcome)
+          ∙ ap (λ (k : Scheduler). seenDeparting (ofReply (departed k .reply)) [] (sentBy (departed k .reply))) (stands-for S);
+    }
+follows c s call t e S (bursts {n} {before} {list} {r} {sent} g singles) =
+    let counted : r .count ≡ burst s n before .reply = ap (λ (a : Counted). a .count) (g .outcome) ∙ ap (λ (k : Scheduler). burst k n before .reply) (stands-for S) in
+    let written : list ≡ burst s n before .list = g .written ∙ ap (λ (k : Scheduler). burst k n before .list) (stands-for S) in
+    let made : sent ≡ departures n s .sent = singles-made singles s S .sent-made in
+    record {
+      stands-then =
+          record {
+            form = ap (λ (a : Counted). a .state) (g .outcome) ∙ ap (λ (k : Scheduler). encode (burst k n before .state)) (stands-for S);
+            rules = every-call-keeps s (bursting n before) (S .rules);
+          };
+      seen-same = λ i. seenDeparting (ofCount (counted i)) (written i) (madeBy (counted i) (made i));
+    }
+
+-- A burst that is not refused gives back the state that as many single calls lead to.
+pub singles-lead : {n : ℕ} {c t : State} {sent : List Sent} → Singles n c sent t → (s : Scheduler) → Stands c s → t ≡ encode (departures n s .state)
+singles-lead singles s S = singles-made singles s S .leads-to
+
+-- The old chooser's fault is impossible: in the line as the code keeps it no flow stands twice, nor does it while it has the turn.
+pub no-controller-in-line-twice : {c : State} {s : Scheduler} → Stands c s → (f : ℕ) → count f (standing (view c .round)) ≤ 1
+no-controller-in-line-twice {c} S f = never-twice (view c) (sound-of-standing S .rules) f

@@ -1,8 +1,10 @@
--- A run of the calls: each on the state that the one before it handed back, and each with any outcome that meets its contract.
-use Prim.Native.Nat.{ℕ}
-use mathlib.Core.List.{List, [], _∷_, _++_}
-use Rattle.model.specs.Chain.{Call, resetting, opening, offering, departing, bursting}
-use Rattle.model.specs.Replies.{Said, told, ofAnswer, ofReply, ofCount}
+-- What the calls of the order layer do, where they meet their contracts: the state that each gives back, and what its caller sees.
+use Prim.Native.Nat.{ℕ, suc}
+use mathlib.Core.List.{List, [], _++_}
+use Rattle.model.specs.Replies.{ofAnswer, ofReply, ofCount, sentBy, takenBy, madeBy}
+use Rattle.model.specs.Chain.{Seen, seenReset, seenAsking, seenDeparting}
+use Rattle.model.specs.OrderCalls.{Call, Packet, resetting, opening, offering, departing, bursting}
+use Rattle.model.specs.declared.Sent.{Sent}
 use Rattle.order.specs.Promised.{NewGives, OpenGives, OfferGives, DepartGives, BurstGives}
 use Rattle.order.specs.declared.State.{State}
 use Rattle.order.specs.declared.Answered.{Answered}
@@ -10,16 +12,20 @@ use Rattle.order.specs.declared.Departed.{Departed}
 use Rattle.order.specs.declared.Placed.{Placed}
 use Rattle.order.specs.declared.Counted.{Counted}
 
--- What the calls said is told beside, in document 01's numbers and values.
-pub data Run : List Call → State → List Said → Type 0 where
-  begins : {c : State} → NewGives c → Run [] c []
-  then-resets : {calls : List Call} {c c′ : State} {said : List Said} → Run calls c said → NewGives c′
-      → Run (calls ++ (resetting ∷ [])) c′ (said ++ (told [] ∷ []))
-  then-opens : {calls : List Call} {c : State} {said : List Said} {f weight : ℕ} {r : Answered} → Run calls c said → OpenGives c f weight r
-      → Run (calls ++ (opening f weight ∷ [])) (r .state) (said ++ (ofAnswer (r .answer) ∷ []))
-  then-offers : {calls : List Call} {c : State} {said : List Said} {f size : ℕ} {r : Placed} → Run calls c said → OfferGives c f size r
-      → Run (calls ++ (offering f size ∷ [])) (r .state) (said ++ (ofAnswer (r .answer) ∷ []))
-  then-departs : {calls : List Call} {c : State} {said : List Said} {r : Departed} → Run calls c said → DepartGives c r
-      → Run (calls ++ (departing ∷ [])) (r .state) (said ++ (ofReply (r .reply) ∷ []))
-  then-bursts : {calls : List Call} {c : State} {said : List Said} {n : ℕ} {before list : List ℕ} {r : Counted} → Run calls c said
-      → BurstGives c n before list r → Run (calls ++ (bursting n before ∷ [])) (r .state) (said ++ (ofCount (r .count) ∷ []))
+-- The departures that n single calls tell of, and where they lead.
+pub data Singles : ℕ → State → List Sent → State → Type 0 where
+  none : {c : State} → Singles 0 c [] c
+  one-more : {n : ℕ} {c t : State} {r : Departed} {sent : List Sent} → DepartGives c r → Singles n (r .state) sent t
+      → Singles (suc n) c (sentBy (r .reply) ++ sent) t
+
+-- A burst tells flow numbers only: what leaves is what as many single calls tell of.
+pub data Does : State → Call → State → Seen Packet Sent → Type 0 where
+  resets : {c r : State} → NewGives r → Does c resetting r seenReset
+  opens : {c : State} {f weight : ℕ} {r : Answered} → OpenGives c f weight r
+      → Does c (opening f weight) (r .state) (seenAsking (ofAnswer (r .answer)) [])
+  offers : {c : State} {f size : ℕ} {r : Placed} → OfferGives c f size r
+      → Does c (offering f size) (r .state) (seenAsking (ofAnswer (r .answer)) (takenBy (r .answer) (record { flow = f; size = size })))
+  departs : {c : State} {r : Departed} → DepartGives c r
+      → Does c departing (r .state) (seenDeparting (ofReply (r .reply)) [] (sentBy (r .reply)))
+  bursts : {c t : State} {n : ℕ} {before list : List ℕ} {r : Counted} {sent : List Sent} → BurstGives c n before list r → Singles n c sent t
+      → Does c (bursting n before) (r .state) (seenDeparting (ofCount (r .count)) list (madeBy (r .count) sent))
