@@ -10,8 +10,8 @@ use Rattle.model.specs.Limits.{flowLimit, queueLimit, sizeLimit}
 use Rattle.model.specs.Choose.{ifZero}
 use Rattle.model.specs.Model.{Flow, Scheduler, flowAt, newScheduler}
 use Rattle.model.specs.Steps.{packetJoined, flowLined, nextSlotOf}
-use Rattle.model.specs.Calls.{put, openFlow, opened, openRefusal, offered, offerRefusal, departed, unlessRefused}
-use Rattle.model.specs.Replies.{sentBy}
+use Rattle.model.specs.Calls.{put, openFlow, opened, openRefusal, offered, offerRefusal, departed, answerOf, unlessRefused}
+use Rattle.model.specs.Replies.{sentBy, takenBy}
 use Rattle.model.specs.Rules.{Rules}
 use Rattle.model.specs.declared.Reply.{Reply}
 use Rattle.model.specs.declared.Reply.the-variants.{Departure, Idle, Refused}
@@ -20,15 +20,19 @@ use Rattle.model.proofs.Flows.{at-others, first-in-range, here-now, beyond-clos
 use Rattle.model.proofs.Refusals.{MayOpen, may-open, MayOffer, may-offer}
 use Rattle.store.specs.Slots.{storeLength, written, held}
 use Rattle.store.specs.Calls.{AfterOffer, AfterDeparture, storeOffer, storeOfferRefusal, storeDepart, storeDepartRefusal}
-use Rattle.store.specs.Chain.{offering, departing, lent, back, Packet, stateAfter, storeAfter, accepting, leaving, putOut, taken, bytesOf, heldFrom, waitingBytes}
+use Rattle.store.specs.StoreCalls.{lent, back, Packet, putOut, bytesOf, heldFrom, waitingBytes}
 use Rattle.store.proofs.SlotLaws.{held-length, written-length}
-use Rattle.store.proofs.CallLaws.{offer-may, offer-state, offer-refused, offer-stores, departs, depart-refused, depart-made, sent-departure}
+use Rattle.store.proofs.CallLaws.{offer-may, offer-state, offer-refused, offer-stores, offer-number, departs, depart-refused, depart-made, sent-departure}
 use Rattle.model.proofs.Departing.{Leaves, departed-leaves, idle-stays, never-refused}
 use Rattle.model.proofs.Choosing.{zero-chosen, chosen-has}
 use Rattle.model.proofs.Keeps.{new-closed}
 use Rattle.model.proofs.Line.{same-or-other}
 use Rattle.store.proofs.Lending.{lent-length, lent-whole, back-whole, back-untouched}
 use Rattle.store.proofs.WaitingLaws.{waiting-over-another-flow, waiting-with-one-more, bytes-of-own, bytes-of-another}
+
+-- The packet that a departure puts out, if it does.
+abbrev pub taken : AfterDeparture → List Packet
+taken o = putOut (o .reply) (o .out)
 
 -- What waits depends on a flow's slot and queue alone.
 same-flow : (s t : Scheduler) (store : List ℕ) (g : ℕ) → flowAt s g ≡ flowAt t g → waitingBytes s store g ≡ waitingBytes t store g
@@ -161,12 +165,12 @@ module _ (s : Scheduler) (R : Rules s) (store : List ℕ) (whole : length store 
         ∙ back-whole n store (storedIn s store f packet) all-lent
         (written-length store packet whole (may-join .size-small) f (nextSlotOf (flowAt s f)) (may-join .flow-in-range) (omega arith) ∙ sym whole)
 
-  pub offer-balances : Balances s store (accepting s store (offering f packet n)) [] (stateAfter s store (offering f packet n)) (storeAfter s store (offering f packet n))
-  unfolding accepting stateAfter storeAfter
-  offer-balances = by (storeOfferRefusal s f packet (lent n store)) refl
+  pub offer-balances : Balances s store (takenBy (offerMade .answer) (record { flow = f; bytes = packet })) [] (offerMade .state) (back store n (offerMade .store))
+  offer-balances =
+      rw (offer-number s f packet (lent n store)) (by (storeOfferRefusal s f packet (lent n store)) refl)
     where
       by : (m : ℕ) → storeOfferRefusal s f packet (lent n store) ≡ m
-          → Balances s store (ifZero m (record { flow = f; bytes = packet } ∷ []) []) [] (offerMade .state) (back store n (offerMade .store))
+          → Balances s store (takenBy (answerOf m) (record { flow = f; bytes = packet })) [] (offerMade .state) (back store n (offerMade .store))
       by zero e g =
           join-balances s R store whole f packet (may-join e) g
           ∙ ap (λ (l : List (List ℕ)). bytesOf g [] ++ l) (sym (ap₂ (λ (t : Scheduler) (l : List ℕ). waitingBytes t l g) (state-joined e) (store-joined e)))
@@ -204,11 +208,11 @@ module _ (s : Scheduler) (R : Rules s) (store : List ℕ) (whole : length store 
   departMade = storeDepart s (lent n store) out
 
   pub none-taken : (o : AfterDeparture) → sentBy (o .reply) ≡ [] → taken o ≡ []
-  unfolding taken putOut
+  unfolding putOut
   none-taken o e = ap (map (λ (d : Sent). record { flow = d .flow; bytes = take (d .size) (o .out) })) e
 
   one-taken : (o : AfterDeparture) (d : Sent) → o .reply ≡ Departure d → taken o ≡ record { flow = d .flow; bytes = take (d .size) (o .out) } ∷ []
-  unfolding taken putOut
+  unfolding putOut
   one-taken o d e = ap (λ (r : Reply). map (λ (d : Sent). record { flow = d .flow; bytes = take (d .size) (o .out) }) (sentBy r)) e
 
   -- Where a packet leaves, all of the store was lent, and the outgoing buffer begins with what the flow's first slot held.
@@ -247,8 +251,7 @@ module _ (s : Scheduler) (R : Rules s) (store : List ℕ) (whole : length store 
       nothing-moves s (departMade .state) store store a refl g
       ∙ ap (λ (l : List Packet). bytesOf g l ++ waitingBytes (departMade .state) store g) (sym (none-taken departMade b))
 
-  pub depart-balances : Balances s store [] (leaving s store (departing n out)) (stateAfter s store (departing n out)) (storeAfter s store (departing n out))
-  unfolding leaving stateAfter storeAfter
+  pub depart-balances : Balances s store [] (taken departMade) (departMade .state) store
   depart-balances = by (storeDepartRefusal (lent n store) out) refl
     where
       reply-by : (r : Reply) → departed s .reply ≡ r → storeDepartRefusal (lent n store) out ≡ 0 → Balances s store [] (taken departMade) (departMade .state) store

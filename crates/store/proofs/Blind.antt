@@ -6,14 +6,27 @@ use mathlib.Core.Bool.{cond}
 use lib.ListN.{length, replicate, length-replicate}
 use lib.Dec.{ltb, eqb}
 use Rattle.model.specs.Choose.{ifZero}
-use Rattle.model.specs.Model.{Scheduler, flowAt}
+use Rattle.model.specs.Model.{Scheduler, flowAt, newScheduler}
 use Rattle.model.specs.Calls.{offerRefusal, offered, departed, answerOf}
 use Rattle.model.specs.Replies.{Said, ofAnswer, ofReply}
 use Rattle.model.specs.declared.Reply.the-variants.{Refused}
 use Rattle.store.specs.Slots.{storeLength, outLimit}
 use Rattle.store.specs.Calls.{storeOffer, storeOfferRefusal, storeDepart, storeDepartRefusal}
-use Rattle.store.specs.Chain.{StoreCall, resetting, opening, offering, departing, lent, History, start, next, chain, sayings, saying, stateAfter, blanked}
+use Rattle.model.specs.Chain.{Effect, moved, next, chain, over}
+use Rattle.store.specs.StoreCalls.{StoreCall, resetting, opening, offering, departing, WithStore, withStore, lent, Packet, does, storeCalls}
+use Rattle.store.proofs.Kept.{StoreHistory, start}
 use Rattle.store.proofs.Lending.{lent-length, store-keeps-length}
+
+-- A call with every byte lent to it 0.
+abbrev pub blanked : StoreCall → StoreCall
+blanked resetting = resetting
+blanked (opening f weight) = opening f weight
+blanked (offering f packet n) = offering f (replicate (length packet) 0) n
+blanked (departing n out) = departing n (replicate (length out) 0)
+
+-- What the calls say.
+abbrev pub sayings : WithStore Scheduler → List StoreCall → List Said
+sayings s calls = over storeCalls (λ (e : Effect (WithStore Scheduler) Packet Packet). e .seen .says ∷ []) s calls
 
 -- One call on two stores of the same length.
 module _ (s : Scheduler) (a b : List ℕ) (same : length a ≡ length b) where
@@ -41,8 +54,8 @@ module _ (s : Scheduler) (a b : List ℕ) (same : length a ≡ length b) where
   as-long : (l : List ℕ) → length l ≡ length {A = ℕ} (replicate (length l) 0)
   as-long l = sym (length-replicate {A = ℕ} (length l) 0)
 
-  says-the-same : (c : StoreCall) → saying s a c ≡ saying s b (blanked c)
-  unfolding saying
+  says-the-same : (c : StoreCall) → does (withStore s a) c .seen .says ≡ does (withStore s b) (blanked c) .seen .says
+  unfolding does
   says-the-same resetting = refl
   says-the-same (opening f weight) = refl
   says-the-same (offering f packet n) =
@@ -50,8 +63,8 @@ module _ (s : Scheduler) (a b : List ℕ) (same : length a ≡ length b) where
   says-the-same (departing n out) =
       ap ofReply (depart-blind s (lent n a) (lent n b) (lent-same n) out (replicate (length out) 0) (as-long out) .1)
 
-  gives-the-same : (c : StoreCall) → stateAfter s a c ≡ stateAfter s b (blanked c)
-  unfolding stateAfter
+  gives-the-same : (c : StoreCall) → does (withStore s a) c .state .keeper ≡ does (withStore s b) (blanked c) .state .keeper
+  unfolding does
   gives-the-same resetting = refl
   gives-the-same (opening f weight) = refl
   gives-the-same (offering f packet n) =
@@ -59,29 +72,31 @@ module _ (s : Scheduler) (a b : List ℕ) (same : length a ≡ length b) where
   gives-the-same (departing n out) =
       depart-blind s (lent n a) (lent n b) (lent-same n) out (replicate (length out) 0) (as-long out) .0
 
--- Two histories with the same state and stores of the same length.
-alike : (calls : List StoreCall) (h k : History) → h .state ≡ k .state → length (h .store) ≡ length (k .store)
-    → (sayings h calls ≡ sayings k (map blanked calls)) × (chain h calls .state ≡ chain k (map blanked calls) .state)
-unfolding sayings chain next
+-- Two histories with the same scheduler and stores of the same length.
+alike : (calls : List StoreCall) (h k : StoreHistory) → h .state .keeper ≡ k .state .keeper → length (h .state .store) ≡ length (k .state .store)
+    → (sayings (h .state) calls ≡ sayings (k .state) (map blanked calls))
+    × (chain storeCalls h calls .state .keeper ≡ chain storeCalls k (map blanked calls) .state .keeper)
+unfolding over chain next moved
 alike [] h k e l = (refl, e)
 alike (c ∷ calls) h k e l =
-    let says : saying (h .state) (h .store) c ≡ saying (k .state) (k .store) (blanked c) =
-    ap (λ (s : Scheduler). saying s (h .store) c) e ∙ says-the-same (k .state) (h .store) (k .store) l c in
-    let gives : stateAfter (h .state) (h .store) c ≡ stateAfter (k .state) (k .store) (blanked c) =
-    ap (λ (s : Scheduler). stateAfter s (h .store) c) e ∙ gives-the-same (k .state) (h .store) (k .store) l c in
+    let says : does (h .state) c .seen .says ≡ does (k .state) (blanked c) .seen .says =
+    ap (λ (s : Scheduler). does (withStore s (h .state .store)) c .seen .says) e ∙ says-the-same (k .state .keeper) (h .state .store) (k .state .store) l c in
+    let gives : does (h .state) c .state .keeper ≡ does (k .state) (blanked c) .state .keeper =
+    ap (λ (s : Scheduler). does (withStore s (h .state .store)) c .state .keeper) e ∙ gives-the-same (k .state .keeper) (h .state .store) (k .state .store) l c in
     let more =
-    alike calls (next h c) (next k (blanked c)) gives
-    (store-keeps-length (h .state) (h .store) c ∙ l ∙ sym (store-keeps-length (k .state) (k .store) (blanked c))) in
+    alike calls (next storeCalls h c) (next storeCalls k (blanked c)) gives
+    (store-keeps-length (h .state) c ∙ l ∙ sym (store-keeps-length (k .state) (blanked c))) in
     (ap₂ (λ (x : Said) (xs : List Said). x ∷ xs) says (more .0), more .1)
 
 -- With every byte of the packets and of the outgoing buffers 0, and any store of the same length, the calls say the same and give the same state.
 pub no-bytes-choose : (a b : List ℕ) → length a ≡ length b → (calls : List StoreCall)
-    → (sayings (start a) calls ≡ sayings (start b) (map blanked calls)) × (chain (start a) calls .state ≡ chain (start b) (map blanked calls) .state)
-unfolding start
+    → (sayings (withStore newScheduler a) calls ≡ sayings (withStore newScheduler b) (map blanked calls))
+    × (chain storeCalls (start a) calls .state .keeper ≡ chain storeCalls (start b) (map blanked calls) .state .keeper)
 no-bytes-choose a b l calls = alike calls (start a) (start b) refl l
 
 -- So whatever two stores of one length hold at first, the same calls say the same and give the same state.
 pub stored-bytes-do-not-choose : (a b : List ℕ) → length a ≡ length b → (calls : List StoreCall)
-    → (sayings (start a) calls ≡ sayings (start b) calls) × (chain (start a) calls .state ≡ chain (start b) calls .state)
+    → (sayings (withStore newScheduler a) calls ≡ sayings (withStore newScheduler b) calls)
+    × (chain storeCalls (start a) calls .state .keeper ≡ chain storeCalls (start b) calls .state .keeper)
 stored-bytes-do-not-choose a b l calls =
     (no-bytes-choose a b l calls .0 ∙ sym (no-bytes-choose b b refl calls .0), no-bytes-choose a b l calls .1 ∙ sym (no-bytes-choose b b refl calls .1))

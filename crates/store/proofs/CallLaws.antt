@@ -16,7 +16,9 @@ use Rattle.model.specs.declared.Answer.the-variants.{Refused as AnswerRefused}
 use Rattle.model.specs.declared.Reply.{Reply}
 use Rattle.model.specs.declared.Reply.the-variants.{Departure, Idle, Refused}
 use Rattle.model.specs.declared.Sent.{Sent}
-use Rattle.model.proofs.Choosing.{zero-chosen, positive-chosen, chosen-twice}
+use Rattle.model.specs.Rules.{Rules}
+use Rattle.model.proofs.Choosing.{zero-chosen, positive-chosen, chosen-twice, chosen-has}
+use Rattle.model.proofs.Keeps.{offered-keeps, departed-keeps}
 use Rattle.store.specs.Slots.{storeLength, outLimit, written, held}
 use Rattle.store.specs.Calls.{storeOfferRefusal, storeOffer, storeDepartRefusal, storeDepart, sentOut}
 
@@ -125,3 +127,13 @@ module _ (s : Scheduler) (store out : List ℕ) where
   sent-nothing (Departure d) no-departure = absurd (no-departure d refl)
   sent-nothing Idle no-departure = refl
   sent-nothing (Refused k) no-departure = refl
+
+-- The store calls keep document 01's rules of the state, as the order layer's do.
+pub offer-keeps : (s : Scheduler) (f : ℕ) (packet store : List ℕ) → Rules s → Rules (storeOffer s f packet store .state)
+unfolding storeOffer
+offer-keeps s f packet store R =
+    chosen-has Rules (storeOfferRefusal s f packet store) (offered s f (length packet) .state) s (λ e. offered-keeps s f (length packet) R) R
+
+pub depart-keeps : (s : Scheduler) (store out : List ℕ) → Rules s → Rules (storeDepart s store out .state)
+unfolding storeDepart
+depart-keeps s store out R = chosen-has Rules (storeDepartRefusal store out) (departed s .state) s (λ e. departed-keeps s R) R

@@ -11,7 +11,7 @@ use Rattle.model.specs.Model.{Scheduler, flowAt}
 use Rattle.model.proofs.Refusals.{MayOffer, may-offer}
 use Rattle.model.specs.Steps.{nextSlotOf}
 use Rattle.store.specs.Calls.{storeOffer, storeOfferRefusal}
-use Rattle.store.specs.Chain.{StoreCall, resetting, opening, offering, departing, lent, back, storeAfter}
+use Rattle.store.specs.StoreCalls.{StoreCall, WithStore, resetting, opening, offering, departing, lent, back, does}
 use Rattle.store.proofs.CallLaws.{offer-may, offer-refused, offer-stores}
 use Rattle.store.proofs.SlotLaws.{written-length}
 
@@ -61,17 +61,17 @@ offer-length s f packet store = by (storeOfferRefusal s f packet store) refl
     by (suc n) e = ap length (offer-refused s f packet store (λ z. absurd (omega arith)) .1)
 
 -- Every call leaves the length of the store.
-pub store-keeps-length : (s : Scheduler) (store : List ℕ) (c : StoreCall) → length (storeAfter s store c) ≡ length store
-unfolding storeAfter back
-store-keeps-length s store resetting = refl
-store-keeps-length s store (opening f weight) = refl
-store-keeps-length s store (offering f packet n) =
+pub store-keeps-length : (s : WithStore Scheduler) (c : StoreCall) → length (does s c .state .store) ≡ length (s .store)
+unfolding does back
+store-keeps-length s resetting = refl
+store-keeps-length s (opening f weight) = refl
+store-keeps-length s (offering f packet n) =
     omega (
       arith,
-      length-append (take (length store) (storeOffer s f packet (lent n store) .store)) (drop n store),
-      length-take (length store) (storeOffer s f packet (lent n store) .store),
-      length-drop n store,
-      offer-length s f packet (lent n store),
-      lent-length n store,
+      length-append (take (length (s .store)) (storeOffer (s .keeper) f packet (lent n (s .store)) .store)) (drop n (s .store)),
+      length-take (length (s .store)) (storeOffer (s .keeper) f packet (lent n (s .store)) .store),
+      length-drop n (s .store),
+      offer-length (s .keeper) f packet (lent n (s .store)),
+      lent-length n (s .store),
     )
-store-keeps-length s store (departing n out) = refl
+store-keeps-length s (departing n out) = refl

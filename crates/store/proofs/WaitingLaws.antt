@@ -11,7 +11,7 @@ use Rattle.model.specs.Limits.{flowLimit, queueLimit, sizeLimit}
 use Rattle.model.specs.Steps.{nextSlot}
 use Rattle.model.specs.Rules.{Sizes, none, one}
 use Rattle.store.specs.Slots.{storeLength, written, held}
-use Rattle.store.specs.Chain.{Packet, bytesOf, heldFrom}
+use Rattle.store.specs.StoreCalls.{Packet, bytesOf, heldFrom}
 use Rattle.store.proofs.SlotLaws.{held-where-written, held-over-another-flow, held-over-another-slot}
 
 module _ (store packet : List ℕ) (all : length store ≡ storeLength) (fits : length packet ≤ sizeLimit) (f k : ℕ) (a : f < flowLimit) (b : k < queueLimit) where
