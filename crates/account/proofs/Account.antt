@@ -8,8 +8,9 @@ use borrow.Author.Tests.{eq-eqb, ne-eqb}
 use Rattle.model.specs.Model.{Flow}
 use Rattle.model.specs.declared.Sent.{Sent}
 use Rattle.model.proofs.Line.{same-or-other}
-use Rattle.account.specs.Stretch.{sumOf, bytes, onePlusMark}
-use Rattle.account.proofs.Circle.{Circle, Move, round-starts, turn-opens, turn-stays-open, turn-ends, flow-runs-empty, flow-joins, packet-joins, flow-opens, Run, stands, moves, follows, Waits, onAccount, weights-same, surpluses-same}
+use Rattle.account.specs.Stretch.{onePlusMark, sumOf}
+use Rattle.account.proofs.Sums.{sumOfSent, bytes}
+use Rattle.account.proofs.Circle.{Circle, Move, round-starts, turn-opens, turn-stays-open, turn-ends, flow-runs-empty, flow-joins, packet-joins, flow-opens, Moves, stands, moves, follows, Waits, onAccount, weights-same, surpluses-same}
 use Rattle.account.proofs.Sums.{sum-append}
 
 -- The weight of a flow that waits never changes: only a flow that is not open can be opened.
@@ -25,7 +26,7 @@ weight-stays f {c} {c′} (flow-opens {g = g} only z out) w =
     same-or-other (λ h. Waits (c′ .flow h) → c′ .flow h .weight ≡ c .flow h .weight) g f (λ v. absurd (out v)) (λ q v. ap (λ (x : Flow). x .weight) (only f q)) w
 
 abbrev pub Balanced : ℕ → Circle → Circle → List Sent → List Sent → Type 0
-Balanced f c c′ l e = sumOf f bytes l + onAccount c f ≡ onAccount c′ f + c .flow f .weight * sumOf f onePlusMark e
+Balanced f c c′ l e = sumOfSent f bytes l + onAccount c f ≡ onAccount c′ f + c .flow f .weight * sumOfSent f onePlusMark e
 
 -- Each move balances the account of a flow that waits after it.
 move-balances : (f : ℕ) {c c′ : Circle} {l e : List Sent} → Move c c′ l e → Waits (c′ .flow f) → Balanced f c c′ l e
@@ -58,15 +59,15 @@ move-balances f {c} {c′} {l} {e} (flow-opens {g = g} only z out) w =
 
 -- A run balances it too, and its weight stays.
 module _ (f : ℕ) {Wanted : (ℕ → Flow) → Type 0} (waits : (flow : ℕ → Flow) → Wanted flow → Waits (flow f)) where
-  pub run-keeps-weight : {c c′ : Circle} {l e : List Sent} → Run Wanted c c′ l e → c′ .flow f .weight ≡ c .flow f .weight
+  pub run-keeps-weight : {c c′ : Circle} {l e : List Sent} → Moves Wanted c c′ l e → c′ .flow f .weight ≡ c .flow f .weight
   run-keeps-weight stands = refl
   run-keeps-weight {c} {c′} (moves m w) = weight-stays f m (waits (c′ .flow) w)
   run-keeps-weight (follows r t) = run-keeps-weight t ∙ run-keeps-weight r
 
-  pub run-balances : {c c′ : Circle} {l e : List Sent} → Run Wanted c c′ l e → Balanced f c c′ l e
+  pub run-balances : {c c′ : Circle} {l e : List Sent} → Moves Wanted c c′ l e → Balanced f c c′ l e
   unfolding sumOf
   run-balances stands = omega arith
   run-balances {c} {c′} (moves m w) = move-balances f m (waits (c′ .flow) w)
   run-balances (follows {l = l} {l′ = l′} {e = e} {e′ = e′} r t) =
       rw (sum-append f bytes l l′, sum-append f onePlusMark e e′)
-      (omega (arith, run-balances r, run-balances t, ap (λ (weight : ℕ). weight * sumOf f onePlusMark e′) (run-keeps-weight r)))
+      (omega (arith, run-balances r, run-balances t, ap (λ (weight : ℕ). weight * sumOfSent f onePlusMark e′) (run-keeps-weight r)))

@@ -53,12 +53,12 @@ thisRound c = inTurn (c .turn) ++ c .rest
 -- ---- what is compared
 
 -- What a flow has on account: its surplus or, in its turn, the surplus carried into the turn and what it has sent since.
-abbrev pub held : Serving → ℕ → ℕ → ℕ → ℕ → ℕ
-held NoTurn mark f weight surplus = surplus
-held (Turn g allowed sent) mark f weight surplus = cond (eqb f g) (weight * (1 + mark) - allowed + sent) surplus
+abbrev pub onAccountIn : Serving → ℕ → ℕ → ℕ → ℕ → ℕ
+onAccountIn NoTurn mark f weight surplus = surplus
+onAccountIn (Turn g allowed sent) mark f weight surplus = cond (eqb f g) (weight * (1 + mark) - allowed + sent) surplus
 
 abbrev pub onAccount : Circle → ℕ → ℕ
-onAccount c f = held (c .turn) (c .mark) f (c .flow f .weight) (c .flow f .surplus)
+onAccount c f = onAccountIn (c .turn) (c .mark) f (c .flow f .weight) (c .flow f .surplus)
 
 -- What this round is still to allow a flow, for each unit of its weight.
 abbrev pub toCome : Circle → ℕ → ℕ
@@ -132,10 +132,10 @@ abbrev pub Backwards : ((ℕ → Flow) → Type 0) → Type 0
 Backwards Wanted = (flow flow′ : ℕ → Flow) → ((f : ℕ) → Waits (flow′ f) → Waits (flow f)) → Wanted flow′ → Wanted flow
 
 -- A run of moves, after each of which the flows are as wanted.
-pub data Run (Wanted : (ℕ → Flow) → Type 0) : Circle → Circle → List Sent → List Sent → Type 0 where
-  stands : {c : Circle} → Run Wanted c c [] []
-  moves : {c c′ : Circle} {l e : List Sent} → Move c c′ l e → Wanted (c′ .flow) → Run Wanted c c′ l e
-  follows : {c c′ c″ : Circle} {l l′ e e′ : List Sent} → Run Wanted c c′ l e → Run Wanted c′ c″ l′ e′ → Run Wanted c c″ (l ++ l′) (e ++ e′)
+pub data Moves (Wanted : (ℕ → Flow) → Type 0) : Circle → Circle → List Sent → List Sent → Type 0 where
+  stands : {c : Circle} → Moves Wanted c c [] []
+  moves : {c c′ : Circle} {l e : List Sent} → Move c c′ l e → Wanted (c′ .flow) → Moves Wanted c c′ l e
+  follows : {c c′ c″ : Circle} {l l′ e e′ : List Sent} → Moves Wanted c c′ l e → Moves Wanted c′ c″ l′ e′ → Moves Wanted c c″ (l ++ l′) (e ++ e′)
 
 -- ---- what a renewed flow leaves as it was
 

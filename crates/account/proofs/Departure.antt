@@ -26,8 +26,8 @@ use Rattle.model.proofs.Keeps.{weighs, standing-waits}
 use Rattle.model.proofs.Flows.{at-others, put-back, waiting-in-reach, first-in-range, put-relates, here-now}
 use Rattle.model.proofs.Parts.{flowMadeOf, roundMadeOf, schedulerMadeOf}
 use Rattle.model.proofs.Departing.{departed-adds-none}
-use Rattle.account.specs.Stretch.{turnThen, turnsOf}
-use Rattle.account.proofs.Circle.{Circle, circle, circleOf, round-starts, turn-opens, turn-stays-open, turn-ends, flow-runs-empty, Run, stands, moves, follows, Renewed, Waits, Backwards, departure}
+use Rattle.model.specs.OrderCalls.{turnThen, turnsOf}
+use Rattle.account.proofs.Circle.{Circle, circle, circleOf, round-starts, turn-opens, turn-stays-open, turn-ends, flow-runs-empty, Moves, stands, moves, follows, Renewed, Waits, Backwards, departure}
 
 -- A flow that waits after a departure waited before it.
 waited-before : (s : Scheduler) (f : ℕ) → Waits (flowAt (departed s .state) f) → Waits (flowAt s f)
@@ -64,7 +64,7 @@ counted-waits {flow} {g = g} L c = standing-waits (flow g) (omega (arith, L .sta
 abbrev Serves : ((ℕ → Flow) → Type 0) → Scheduler → ℕ → Circle → Visit → Type 0
 Serves Wanted s g c v =
     Wanted (flowAt (put s g (v .flow) (v .round)))
-    → Run Wanted c (circleOf (put s g (v .flow) (v .round))) (sentBy (v .reply)) (turnThen (v .reply) (v .round .turn) [])
+    → Moves Wanted c (circleOf (put s g (v .flow) (v .round))) (sentBy (v .reply)) (turnThen (v .reply) (v .round .turn) [])
 
 -- Steps 3 to 6, in an open turn of g, whose flow is as in the state but for its surplus.
 module _ (Wanted : (ℕ → Flow) → Type 0) (s : Scheduler) (R : Rules s) (r : Round) (g allowed sent w σ k : ℕ) (flow : ℕ → Flow)
@@ -175,7 +175,7 @@ module _ (Wanted : (ℕ → Flow) → Type 0) (back : Backwards Wanted) where
   Departs s =
       Rules s
       → Wanted (flowAt (departed s .state))
-      → Run Wanted (circleOf s) (circleOf (departed s .state)) (sentBy (departed s .reply)) (turnsOf 1 s)
+      → Moves Wanted (circleOf s) (circleOf (departed s .state)) (sentBy (departed s .reply)) (turnsOf 1 s)
 
   departs : (flows : List Flow) (line : List ℕ) (visits mark running : ℕ) (turn : Serving) → Departs (schedulerMadeOf flows line visits mark running turn)
   unfolding departed visit visitBy roundStarted turnOpened RoundRules turnsOf turnThen put

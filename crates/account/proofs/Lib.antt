@@ -1,4 +1,4 @@
--- Demand 3, proved. Theorems has the statements, Reached their numbers on one closed stretch, Bursts that a burst is its single departures.
+-- Demand 3, proved. Theorems has the statements, Reached their numbers on closed stretches (Reaching), Bursts that a burst is its single departures.
 --
 -- The argument speaks of a state as a circle of flows and of the few moves that calls are made of (Circle). Account: each move balances the account
 -- of a flow that waits. Rounds: each round gives two flows that wait one turn each. Order: who of them stands first in the circle never changes.
@@ -20,4 +20,5 @@ pub mod Runs
 pub mod Stretches
 pub mod Theorems
 pub mod Bursts
+pub mod Reaching
 pub mod Reached

@@ -9,7 +9,7 @@ use borrow.Author.Tests.{ne-eqb}
 use Rattle.model.specs.Model.{Flow}
 use Rattle.model.specs.Rules.{count}
 use Rattle.model.specs.declared.Sent.{Sent}
-use Rattle.account.proofs.Circle.{Circle, Move, round-starts, turn-opens, turn-stays-open, turn-ends, flow-runs-empty, flow-joins, packet-joins, flow-opens, Run, stands, moves, follows, Waits, thisRound}
+use Rattle.account.proofs.Circle.{Circle, Move, round-starts, turn-opens, turn-stays-open, turn-ends, flow-runs-empty, flow-joins, packet-joins, flow-opens, Moves, stands, moves, follows, Waits, thisRound}
 
 -- Whether j stands before i.
 unfoldable pub leads : ℕ → ℕ → List ℕ → Bool
@@ -69,12 +69,12 @@ module _ (i j : ℕ) where
   move-keeps-order (packet-joins new) v w = refl
   move-keeps-order (flow-opens only z out) v w = refl
 
-  pub run-keeps-both : {c c′ : Circle} {l e : List Sent} → Run Both c c′ l e → Both (c .flow) → Both (c′ .flow)
+  pub run-keeps-both : {c c′ : Circle} {l e : List Sent} → Moves Both c c′ l e → Both (c .flow) → Both (c′ .flow)
   run-keeps-both stands v = v
   run-keeps-both (moves m w) v = w
   run-keeps-both (follows r t) v = run-keeps-both t (run-keeps-both r v)
 
-  pub order-never-changes : {c c′ : Circle} {l e : List Sent} → Run Both c c′ l e → Both (c .flow) → leads j i (order c′) ≡ leads j i (order c)
+  pub order-never-changes : {c c′ : Circle} {l e : List Sent} → Moves Both c c′ l e → Both (c .flow) → leads j i (order c′) ≡ leads j i (order c)
   order-never-changes stands v = refl
   order-never-changes (moves m w) v = move-keeps-order m v w
   order-never-changes (follows r t) v = order-never-changes t (run-keeps-both r v) ∙ order-never-changes r v

@@ -8,8 +8,9 @@ use native.Mathlib.Omega.{arith}
 use Rattle.model.specs.Rules.{count}
 use Rattle.model.specs.declared.Sent.{Sent}
 use Rattle.model.proofs.Counts.{count-append}
-use Rattle.account.specs.Stretch.{sumOf, bytes, onePlusMark, DifferByAtMost}
-use Rattle.account.proofs.Circle.{Circle, Run, onAccount, toCome, thisRound}
+use Rattle.account.specs.Stretch.{onePlusMark}
+use Rattle.account.proofs.Sums.{sumOfSent, bytes, DifferByAtMost}
+use Rattle.account.proofs.Circle.{Circle, Moves, onAccount, toCome, thisRound}
 use Rattle.account.proofs.Account.{Balanced, run-keeps-weight, run-balances}
 use Rattle.account.proofs.Order.{leads, order, one-leads, Both, order-never-changes}
 use Rattle.account.proofs.Rounds.{Even, run-is-even}
@@ -27,7 +28,7 @@ record Shared (i j : ℕ) (c c′ : Circle) (l e : List Sent) : Type 0 where
   account-of-j : Balanced j c c′ l e
   even : Even i j c c′ e
 
-shared : {i j : ℕ} {c c′ : Circle} {l e : List Sent} → Run (Both i j) c c′ l e → Both i j (c .flow) → Shared i j c c′ l e
+shared : {i j : ℕ} {c c′ : Circle} {l e : List Sent} → Moves (Both i j) c c′ l e → Both i j (c .flow) → Shared i j c c′ l e
 shared {i} {j} r both =
     record {
       weight-of-i = run-keeps-weight i (λ flow w. w .0) r;
@@ -53,17 +54,17 @@ weighed {wi = wi} {wj = wj} bi bj ri rj ai aj rounds before after =
     (omega (arith, before .below, after .above), omega (arith, before .above, after .below))
 
 bytes-differ : {k i j : ℕ} {c c′ : Circle} {l e : List Sent} → Shared i j c c′ l e → ApartAt k i j c → ApartAt k i j c′
-    → DifferByAtMost (c .flow j .weight * sumOf i bytes l) (c .flow i .weight * sumOf j bytes l)
+    → DifferByAtMost (c .flow j .weight * sumOfSent i bytes l) (c .flow i .weight * sumOfSent j bytes l)
     (suc k * (c .flow i .weight * c .flow j .weight) + k * (c .flow i .weight + c .flow j .weight))
 bytes-differ {k} {i} {j} {c} {c′} {l} {e} s before after =
-    weighed (sumOf i bytes l) (sumOf j bytes l) (sumOf i onePlusMark e) (sumOf j onePlusMark e) (s .account-of-i) (s .account-of-j) (s .even) before
+    weighed (sumOfSent i bytes l) (sumOfSent j bytes l) (sumOfSent i onePlusMark e) (sumOfSent j onePlusMark e) (s .account-of-i) (s .account-of-j) (s .even) before
     (subst₂ (λ (v w : ℕ). Apart k v w (onAccount c′ i) (onAccount c′ j) (toCome c′ i) (toCome c′ j)) (s .weight-of-i) (s .weight-of-j) after)
 
-module _ {k i j : ℕ} {c c′ : Circle} {l e : List Sent} (differ : i ≡ j → ⊥) (r : Run (Both i j) c c′ l e) (both : Both i j (c .flow))
+module _ {k i j : ℕ} {c c′ : Circle} {l e : List Sent} (differ : i ≡ j → ⊥) (r : Moves (Both i j) c c′ l e) (both : Both i j (c .flow))
     (small : c .mark ≤ k) (small′ : c′ .mark ≤ k) (pi : Placed k i c) (pj : Placed k j c) (pi′ : Placed k i c′) (pj′ : Placed k j c′) where
   abbrev BytesDiffer : Type 0
   BytesDiffer =
-      DifferByAtMost (c .flow j .weight * sumOf i bytes l) (c .flow i .weight * sumOf j bytes l)
+      DifferByAtMost (c .flow j .weight * sumOfSent i bytes l) (c .flow i .weight * sumOfSent j bytes l)
       (suc k * (c .flow i .weight * c .flow j .weight) + k * (c .flow i .weight + c .flow j .weight))
 
   -- Whichever of the two leads, it leads before and after.

@@ -9,8 +9,9 @@ use lib.Dec.{eqb}
 use Rattle.model.specs.Rules.{count}
 use Rattle.model.specs.declared.Sent.{Sent}
 use Rattle.model.proofs.Line.{waiting-is-active}
-use Rattle.account.specs.Stretch.{sumOf, onePlusMark}
-use Rattle.account.proofs.Circle.{Circle, Move, round-starts, turn-opens, turn-stays-open, turn-ends, flow-runs-empty, flow-joins, packet-joins, flow-opens, Run, stands, moves, follows, toCome}
+use Rattle.account.specs.Stretch.{onePlusMark, sumOf}
+use Rattle.account.proofs.Sums.{sumOfSent}
+use Rattle.account.proofs.Circle.{Circle, Move, round-starts, turn-opens, turn-stays-open, turn-ends, flow-runs-empty, flow-joins, packet-joins, flow-opens, Moves, stands, moves, follows, toCome}
 use Rattle.account.proofs.Sums.{sum-append}
 use Rattle.account.proofs.Order.{Both, run-keeps-both}
 
@@ -25,7 +26,7 @@ turn-has-come f g mark rest = go (eqb f g)
 
 module _ (i j : ℕ) where
   abbrev pub Even : Circle → Circle → List Sent → Type 0
-  Even c c′ e = sumOf i onePlusMark e + toCome c′ i + toCome c j ≡ sumOf j onePlusMark e + toCome c′ j + toCome c i
+  Even c c′ e = sumOfSent i onePlusMark e + toCome c′ i + toCome c j ≡ sumOfSent j onePlusMark e + toCome c′ j + toCome c i
 
   move-is-even : {c c′ : Circle} {l e : List Sent} → Move c c′ l e → Both i j (c .flow) → Even c c′ e
   unfolding sumOf count
@@ -43,7 +44,7 @@ module _ (i j : ℕ) where
   move-is-even (packet-joins new) w = omega arith
   move-is-even (flow-opens only z out) w = omega arith
 
-  pub run-is-even : {c c′ : Circle} {l e : List Sent} → Run (Both i j) c c′ l e → Both i j (c .flow) → Even c c′ e
+  pub run-is-even : {c c′ : Circle} {l e : List Sent} → Moves (Both i j) c c′ l e → Both i j (c .flow) → Even c c′ e
   unfolding sumOf
   run-is-even stands w = omega arith
   run-is-even (moves m v) w = move-is-even m w

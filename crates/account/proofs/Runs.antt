@@ -6,28 +6,24 @@ use native.Mathlib.Omega.{arith}
 use lib.ListN.{length}
 use lib.Seq.{take-append-le, drop-append-le}
 use Rattle.model.specs.Limits.{flowLimit}
-use Rattle.model.specs.Choose.{ifZero}
 use Rattle.model.specs.Model.{Flow, Round, Scheduler, flowAt}
 use Rattle.model.specs.Steps.{packetJoined, flowLined}
-use Rattle.model.specs.Calls.{put, openFlow, opened, offered, departed, departures, andThen, burst, burstMade, unlessRefused, openRefusal, offerRefusal, burstRefusal}
+use Rattle.model.specs.Calls.{Burst, put, openFlow, opened, offered, departed, departures, andThen, burst, burstMade, unlessRefused, openRefusal, offerRefusal, burstRefusal}
 use Rattle.model.specs.Rules.{RoundRules, Rules}
-use Rattle.model.specs.Replies.{sentBy}
-use Rattle.model.specs.Chain.{Call, resetting, opening, offering, departing, bursting, after, leaving}
+use Rattle.model.specs.Replies.{sentBy, madeBy}
+use Rattle.model.specs.OrderCalls.{Call, resetting, opening, offering, departing, bursting, turnThen, turnsOf, does}
 use Rattle.model.specs.declared.Sent.{Sent}
 use Rattle.model.specs.declared.Reply.{Reply}
 use Rattle.model.specs.declared.Reply.the-variants.{Departure, Idle, Refused}
 use Rattle.model.specs.declared.Serving.{Serving}
 use Rattle.model.specs.declared.Serving.the-variants.{NoTurn, Turn}
-use Rattle.model.specs.declared.Count.{Count}
-use Rattle.model.specs.declared.Count.the-variants.{Refused as CountRefused}
 use Rattle.model.proofs.Refusals.{may-open, may-offer}
 use Rattle.model.proofs.Flows.{at-others, here-now}
 use Rattle.model.proofs.Keeps.{departed-keeps}
 use Rattle.model.proofs.Parts.{flowMadeOf}
 use Rattle.model.proofs.Departing.{departures-add-none}
 use Rattle.model.proofs.Choosing.{chosen-has}
-use Rattle.account.specs.Stretch.{turnThen, turnsOf, completing}
-use Rattle.account.proofs.Circle.{circleOf, visitsInLine, flow-joins, packet-joins, flow-opens, Run, stands, moves, follows, Renewed, Waits, Backwards}
+use Rattle.account.proofs.Circle.{circleOf, visitsInLine, flow-joins, packet-joins, flow-opens, Moves, stands, moves, follows, Renewed, Waits, Backwards}
 use Rattle.account.proofs.Departure.{renewed, departure-runs}
 
 -- The visits left are visits of flows in line.
@@ -40,7 +36,7 @@ module _ (Wanted : (ℕ → Flow) → Type 0) (s : Scheduler) (R : Rules s) wher
   -- Step 1.
   packet-runs : (g size : ℕ) (reach : g < flowLimit) (w σ k : ℕ) (q : List ℕ) → flowAt s g ≡ flowMadeOf w σ k q
       → Wanted (flowAt (put s g (packetJoined (flowMadeOf w σ k q) size) (flowLined (s .round) g (flowMadeOf w σ k q))))
-      → Run Wanted (circleOf s) (circleOf (put s g (packetJoined (flowMadeOf w σ k q) size) (flowLined (s .round) g (flowMadeOf w σ k q)))) [] []
+      → Moves Wanted (circleOf s) (circleOf (put s g (packetJoined (flowMadeOf w σ k q) size) (flowLined (s .round) g (flowMadeOf w σ k q)))) [] []
   unfolding put packetJoined flowLined
   packet-runs g size reach w σ k [] here W =
       rw (drop-append-le n (s .round .line) (g ∷ []) fits, take-append-le n (s .round .line) (g ∷ []) fits)
@@ -73,7 +69,7 @@ module _ (Wanted : (ℕ → Flow) → Type 0) (s : Scheduler) (R : Rules s) wher
 
   -- A flow is opened that was not open.
   opening-runs : (g weight : ℕ) (reach : g < flowLimit) → Wanted (flowAt (put s g (openFlow weight) (s .round)))
-      → Run Wanted (circleOf s) (circleOf (put s g (openFlow weight) (s .round))) [] []
+      → Moves Wanted (circleOf s) (circleOf (put s g (openFlow weight) (s .round))) [] []
   unfolding put
   opening-runs g weight reach =
       moves
@@ -86,19 +82,19 @@ module _ (Wanted : (ℕ → Flow) → Type 0) (s : Scheduler) (R : Rules s) wher
       now = here-now s R reach (openFlow weight) (s .round)
 
   -- A refusal changes nothing.
-  unless-refused-runs : (n : ℕ) (t : Scheduler) → (n ≡ 0 → Wanted (flowAt t) → Run Wanted (circleOf s) (circleOf t) [] [])
-      → Wanted (flowAt (unlessRefused n s t .state)) → Run Wanted (circleOf s) (circleOf (unlessRefused n s t .state)) [] []
+  unless-refused-runs : (n : ℕ) (t : Scheduler) → (n ≡ 0 → Wanted (flowAt t) → Moves Wanted (circleOf s) (circleOf t) [] [])
+      → Wanted (flowAt (unlessRefused n s t .state)) → Moves Wanted (circleOf s) (circleOf (unlessRefused n s t .state)) [] []
   unfolding unlessRefused
   unless-refused-runs n t effect =
-      chosen-has (λ k. Wanted (flowAt k) → Run Wanted (circleOf s) (circleOf k) [] []) n t s effect (λ W. stands)
+      chosen-has (λ k. Wanted (flowAt k) → Moves Wanted (circleOf s) (circleOf k) [] []) n t s effect (λ W. stands)
 
-  offered-runs : (g size : ℕ) → Wanted (flowAt (offered s g size .state)) → Run Wanted (circleOf s) (circleOf (offered s g size .state)) [] []
+  offered-runs : (g size : ℕ) → Wanted (flowAt (offered s g size .state)) → Moves Wanted (circleOf s) (circleOf (offered s g size .state)) [] []
   unfolding offered
   offered-runs g size =
       unless-refused-runs (offerRefusal g size (flowAt s g)) (put s g (packetJoined (flowAt s g) size) (flowLined (s .round) g (flowAt s g)))
       (λ e. packet-runs g size (may-offer g size (flowAt s g) e .flow-in-range) (flowAt s g .weight) (flowAt s g .surplus) (flowAt s g .slot) (flowAt s g .queue) refl)
 
-  opened-runs : (g weight : ℕ) → Wanted (flowAt (opened s g weight .state)) → Run Wanted (circleOf s) (circleOf (opened s g weight .state)) [] []
+  opened-runs : (g weight : ℕ) → Wanted (flowAt (opened s g weight .state)) → Moves Wanted (circleOf s) (circleOf (opened s g weight .state)) [] []
   unfolding opened
   opened-runs g weight =
       unless-refused-runs (openRefusal g weight (flowAt s g)) (put s g (openFlow weight) (s .round))
@@ -110,7 +106,7 @@ waited-before-all n s f w = omega (arith, departures-add-none n s f)
 
 module _ (Wanted : (ℕ → Flow) → Type 0) (back : Backwards Wanted) where
   abbrev pub Runs : Scheduler → Scheduler → List Sent → List Sent → Type 0
-  Runs s t l e = Wanted (flowAt t) → Run Wanted (circleOf s) (circleOf t) l e
+  Runs s t l e = Wanted (flowAt t) → Moves Wanted (circleOf s) (circleOf t) l e
 
   departures-run : (n : ℕ) (s : Scheduler) → Rules s → Runs s (departures n s .state) (departures n s .sent) (turnsOf n s)
   unfolding departures andThen turnsOf turnThen
@@ -130,16 +126,12 @@ module _ (Wanted : (ℕ → Flow) → Type 0) (back : Backwards Wanted) where
       go Idle turn one more W = one W
       go (Refused k) turn one more W = one W
 
-  pub call-runs : (s : Scheduler) (c : Call) → Rules s → (c ≡ resetting → ⊥) → Runs s (after s c) (leaving s c) (completing s c)
-  unfolding after leaving completing burst burstMade
+  pub call-runs : (s : Scheduler) (c : Call) → Rules s → (c ≡ resetting → ⊥) → Runs s (does s c .state) (does s c .seen .sends) (does s c .completes)
+  unfolding does burst burstMade
   call-runs s resetting R no-reset W = absurd (no-reset refl)
   call-runs s (opening g weight) R no-reset W = opened-runs Wanted s R g weight W
   call-runs s (offering g size) R no-reset W = offered-runs Wanted s R g size W
   call-runs s departing R no-reset W = departure-runs Wanted back s R W
-  call-runs s (bursting n list) R no-reset W = go (burstRefusal n list) (CountRefused (burstRefusal n list)) W
-    where
-      go : (k : ℕ) (c : Count)
-          → Runs s (ifZero k (burstMade list (departures n s)) (record { state = s; list = list; reply = c }) .state)
-          (ifZero k (departures n s .sent) []) (ifZero k (turnsOf n s) [])
-      go zero c W = departures-run n s R W
-      go (suc k) c W = stands
+  call-runs s (bursting n list) R no-reset W =
+      chosen-has (λ (b : Burst). Runs s (b .state) (madeBy (b .reply) (departures n s .sent)) (madeBy (b .reply) (turnsOf n s)))
+      (burstRefusal n list) (burstMade list (departures n s)) _ (λ e. departures-run n s R) (λ W. stands) W

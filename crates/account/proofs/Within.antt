@@ -10,7 +10,8 @@ use Rattle.model.specs.Model.{Flow}
 use Rattle.model.specs.declared.Sent.{Sent}
 use Rattle.model.proofs.Line.{same-or-other}
 use Rattle.account.specs.Stretch.{largest}
-use Rattle.account.proofs.Circle.{Circle, Move, round-starts, turn-opens, turn-stays-open, turn-ends, flow-runs-empty, flow-joins, packet-joins, flow-opens, Run, stands, moves, follows, Renewed}
+use Rattle.account.proofs.Sums.{largestSent}
+use Rattle.account.proofs.Circle.{Circle, Move, round-starts, turn-opens, turn-stays-open, turn-ends, flow-runs-empty, flow-joins, packet-joins, flow-opens, Moves, stands, moves, follows, Renewed}
 use Rattle.account.proofs.Sums.{largest-append}
 
 -- Marks and surpluses are at most k.
@@ -28,7 +29,7 @@ surplus-moves : {g surplus k : ℕ} {flow flow′ : ℕ → Flow} → Renewed g 
 surplus-moves {g} {k = k} {flow′ = flow′} new h w f =
     same-or-other (λ h. flow′ h .surplus ≤ k) g f (omega (arith, new .surplus-now)) (λ q. omega (arith, w f, ap (λ (x : Flow). x .surplus) (new .others-same f q)))
 
-move-stays-within : (k : ℕ) {c c′ : Circle} {l e : List Sent} → Move c c′ l e → largest l ≤ suc k → Within k c → Within k c′
+move-stays-within : (k : ℕ) {c c′ : Circle} {l e : List Sent} → Move c c′ l e → largestSent l ≤ suc k → Within k c → Within k c′
 unfolding largest
 move-stays-within k (round-starts once) m w = record { mark-within = w .running-within; running-within = omega arith; surplus-within = w .surplus-within }
 move-stays-within k (turn-opens new low) m w =
@@ -51,7 +52,7 @@ move-stays-within k {c} {c′} (flow-opens {g = g} only z out) m w =
     }
 
 -- A packet that leaves has a byte at least.
-move-sends-bytes : {c c′ : Circle} {l e : List Sent} → Move c c′ l e → 1 ≤ length l → 1 ≤ largest l
+move-sends-bytes : {c c′ : Circle} {l e : List Sent} → Move c c′ l e → 1 ≤ length l → 1 ≤ largestSent l
 unfolding largest
 move-sends-bytes (round-starts once) h = absurd (omega arith)
 move-sends-bytes (turn-opens new low) h = absurd (omega arith)
@@ -63,13 +64,13 @@ move-sends-bytes (packet-joins new) h = absurd (omega arith)
 move-sends-bytes (flow-opens only z out) h = absurd (omega arith)
 
 module _ {Wanted : (ℕ → Flow) → Type 0} where
-  pub run-stays-within : (k : ℕ) {c c′ : Circle} {l e : List Sent} → Run Wanted c c′ l e → largest l ≤ suc k → Within k c → Within k c′
+  pub run-stays-within : (k : ℕ) {c c′ : Circle} {l e : List Sent} → Moves Wanted c c′ l e → largestSent l ≤ suc k → Within k c → Within k c′
   run-stays-within k stands m w = w
   run-stays-within k (moves v want) m w = move-stays-within k v m w
   run-stays-within k (follows {l = l} {l′ = l′} r t) m w =
       run-stays-within k t (omega (arith, largest-append l l′)) (run-stays-within k r (omega (arith, largest-append l l′)) w)
 
-  pub run-sends-bytes : {c c′ : Circle} {l e : List Sent} → Run Wanted c c′ l e → 1 ≤ length l → 1 ≤ largest l
+  pub run-sends-bytes : {c c′ : Circle} {l e : List Sent} → Moves Wanted c c′ l e → 1 ≤ length l → 1 ≤ largestSent l
   run-sends-bytes stands h = absurd (omega arith)
   run-sends-bytes (moves m want) h = move-sends-bytes m h
   run-sends-bytes (follows {l = l} {l′ = l′} r t) h =

@@ -1,4 +1,2 @@
--- What the statements of demand 3 speak of. A reader believes Stretch: stretches of calls, who waits, what is sent, which turns are completed.
--- Reaching has one closed stretch with its numbers.
+-- What the statements of demand 3 speak of: stretches of calls, who waits, what is sent, which turns are completed.
 pub mod Stretch
-pub mod Reaching

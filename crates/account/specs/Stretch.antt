@@ -1,149 +1,105 @@
--- Stretches of calls, in the words of demand 3, over the model's chain of calls and its departures.
-use Prim.Native.Nat.{ℕ, zero, suc, _+_, _≤_, _<_, max}
+-- Stretches of calls of any kind, in the words of demand 3.
+use Prim.Native.Nat.{ℕ, _+_, _≤_, max}
 use mathlib.Core.Path.{_≡_}
 use mathlib.Core.List.{List, [], _∷_, _++_}
 use mathlib.Core.Bool.{cond}
-use lib.ListN.{length, replicate}
+use lib.ListN.{length}
 use lib.Dec.{eqb}
-use Rattle.model.specs.Choose.{ifZero}
 use Rattle.model.specs.Model.{Scheduler, flowAt}
-use Rattle.model.specs.Calls.{departed, burstRefusal}
-use Rattle.model.specs.Chain.{Call, resetting, opening, offering, departing, bursting, leaving, History, start, next, chain}
+use Rattle.model.specs.Chain.{Seen, Effect, Kind, HistoryOf, begin, next, chain, over, seenOver}
 use Rattle.model.specs.declared.Sent.{Sent}
-use Rattle.model.specs.declared.Reply.{Reply}
-use Rattle.model.specs.declared.Reply.the-variants.{Departure, Idle, Refused}
-use Rattle.model.specs.declared.Serving.{Serving}
-use Rattle.model.specs.declared.Serving.the-variants.{NoTurn, Turn}
+use Rattle.model.specs.declared.Serving.the-variants.{Turn}
 
--- Calls from any moment on, with those that came before them since the scheduler was new.
-pub record Stretch : Type 0 where
-  pub before : List Call
-  pub calls : List Call
+-- What leaves over calls of which this is seen.
+unfoldable pub leftOver : {P D : Type 0} → List (Seen P D) → List D
+leftOver [] = []
+leftOver (e ∷ seen) = e .sends ++ leftOver seen
 
-abbrev pub begun : Stretch → History
-begun x = chain start (x .before)
+-- The sum of a value over those of flow f.
+unfoldable pub sumOf : {D : Type 0} → (D → ℕ) → ℕ → (D → ℕ) → List D → ℕ
+sumOf flowOf f value [] = 0
+sumOf flowOf f value (d ∷ l) = cond (eqb f (flowOf d)) (value d) 0 + sumOf flowOf f value l
 
-abbrev pub ended : Stretch → History
-ended x = chain (begun x) (x .calls)
+-- The largest of a value; 0 where there is none.
+unfoldable pub largest : {D : Type 0} → (D → ℕ) → List D → ℕ
+largest value [] = 0
+largest value (d ∷ l) = max (value d) (largest value l)
 
--- ---- who has a packet waiting
+-- A turn is told by the departure that completes it: its flow, and one plus the mark of its round.
+abbrev pub turnFlow : Sent → ℕ
+turnFlow d = d .flow
 
-abbrev pub Waiting : Scheduler → ℕ → Type 0
-Waiting s f = 1 ≤ length (flowAt s f .queue)
-
--- Flow f has a packet waiting after every call.
-unfoldable pub WaitingAfterEvery : ℕ → History → List Call → Type 0
-WaitingAfterEvery f h [] = Unit {0}
-WaitingAfterEvery f h (c ∷ calls) = Waiting (next h c .state) f × WaitingAfterEvery f (next h c) calls
-
--- It has one before and after every call.
-abbrev pub WaitingThroughout : Stretch → ℕ → Type 0
-WaitingThroughout x f = Waiting (begun x .state) f × WaitingAfterEvery f (begun x) (x .calls)
-
--- No call is a reset. Of a stretch in which a flow has a packet waiting after every call this is proved, and so the theorems do not ask for it.
-unfoldable pub WithoutReset : List Call → Type 0
-WithoutReset [] = Unit {0}
-WithoutReset (c ∷ calls) = (c ≡ resetting → ⊥) × WithoutReset calls
-
--- ---- what is sent
-
--- The departures, in order.
-unfoldable pub sentIn : History → List Call → List Sent
-sentIn h [] = []
-sentIn h (c ∷ calls) = leaving (h .state) c ++ sentIn (next h c) calls
-
-abbrev pub SomethingSent : Stretch → Type 0
-SomethingSent x = 1 ≤ length (sentIn (begun x) (x .calls))
-
--- The sum of a value over the departures of flow f.
-unfoldable pub sumOf : ℕ → (Sent → ℕ) → List Sent → ℕ
-sumOf f value [] = 0
-sumOf f value (d ∷ l) = cond (eqb f (d .flow)) (value d) 0 + sumOf f value l
-
-abbrev pub bytes : Sent → ℕ
-bytes d = d .size
-
-abbrev pub bytesSent : Stretch → ℕ → ℕ
-bytesSent x f = sumOf f bytes (sentIn (begun x) (x .calls))
-
--- The largest packet that anyone has sent, from the last reset to the end of the stretch; 0 if nobody has sent any.
-unfoldable pub largest : List Sent → ℕ
-largest [] = 0
-largest (d ∷ l) = max (d .size) (largest l)
-
-abbrev pub largestSinceReset : Stretch → ℕ
-largestSinceReset x = largest (ended x .left)
-
--- ---- which turns are completed
-
--- A departure completes a turn where none is open after it. It stands for the turn, and tells its flow and its round's mark.
-unfoldable pub turnThen : Reply → Serving → List Sent → List Sent
-turnThen (Departure d) NoTurn more = d ∷ more
-turnThen (Departure d) (Turn f allowed sent) more = more
-turnThen Idle turn more = []
-turnThen (Refused k) turn more = []
-
--- The turns that up to n departures complete, and those that a call completes.
-unfoldable pub turnsOf : ℕ → Scheduler → List Sent
-turnsOf zero s = []
-turnsOf (suc n) s = turnThen (departed s .reply) (departed s .state .round .turn) (turnsOf n (departed s .state))
-
-unfoldable pub completing : Scheduler → Call → List Sent
-completing s resetting = []
-completing s (opening f weight) = []
-completing s (offering f size) = []
-completing s departing = turnsOf 1 s
-completing s (bursting n list) = ifZero (burstRefusal n list) (turnsOf n s) []
-
-unfoldable pub turnsIn : History → List Call → List Sent
-turnsIn h [] = []
-turnsIn h (c ∷ calls) = completing (h .state) c ++ turnsIn (next h c) calls
-
--- The sum, over the turns of flow f that the stretch completes, of one plus the mark of the turn's round.
 abbrev pub onePlusMark : Sent → ℕ
 onePlusMark d = 1 + d .mark
 
-abbrev pub onePlusMarks : Stretch → ℕ → ℕ
-onePlusMarks x f = sumOf f onePlusMark (turnsIn (begun x) (x .calls))
+-- Flow f has a packet waiting.
+abbrev pub Waiting : Scheduler → ℕ → Type 0
+Waiting s f = 1 ≤ length (flowAt s f .queue)
 
 -- No turn of flow f is open.
 abbrev pub BetweenTurns : Scheduler → ℕ → Type 0
 BetweenTurns s f = (allowed sent : ℕ) → s .round .turn ≡ Turn f allowed sent → ⊥
 
--- Consecutive completed turns of flow f: the stretch begins before the first and ends after the last of them, and f has a packet waiting after every
--- call of it.
-pub record ConsecutiveTurns (x : Stretch) (f : ℕ) : Type 0 where
-  pub before-the-first : BetweenTurns (begun x .state) f
-  pub after-the-last : BetweenTurns (ended x .state) f
-  pub waiting-after-every : WaitingAfterEvery f (begun x) (x .calls)
+module _ (K : Kind) where
+  -- Bytes of flow f, and the largest packet, among what left.
+  abbrev pub bytesOf : ℕ → List (K .Departure) → ℕ
+  bytesOf f l = sumOf (K .flowOf) f (K .sizeOf) l
 
--- ---- the numbers compared
+  abbrev pub largestOf : List (K .Departure) → ℕ
+  largestOf l = largest (K .sizeOf) l
 
-abbrev pub weightOf : Stretch → ℕ → ℕ
-weightOf x f = flowAt (begun x .state) f .weight
+  -- Calls from any moment on, with those that came before them since the beginning.
+  pub record Stretch : Type 0 where
+    pub first : K .State
+    pub new : K .New first
+    pub before : List (K .Call)
+    pub calls : List (K .Call)
 
-abbrev pub surplusBefore : Stretch → ℕ → ℕ
-surplusBefore x f = flowAt (begun x .state) f .surplus
+  abbrev pub begun : Stretch → HistoryOf K
+  begun x = chain K (begin (x .first)) (x .before)
 
-abbrev pub surplusAfter : Stretch → ℕ → ℕ
-surplusAfter x f = flowAt (ended x .state) f .surplus
+  abbrev pub ended : Stretch → HistoryOf K
+  ended x = chain K (begun x) (x .calls)
 
-abbrev pub DifferByAtMost : ℕ → ℕ → ℕ → Type 0
-DifferByAtMost a b d = (a ≤ b + d) × (b ≤ a + d)
+  -- Flow f has a packet waiting after every call.
+  unfoldable pub WaitingAfterEvery : ℕ → K .State → List (K .Call) → Type 0
+  WaitingAfterEvery f s [] = Unit {0}
+  WaitingAfterEvery f s (c ∷ calls) = Waiting (K .scheduler (K .does s c .state)) f × WaitingAfterEvery f (K .does s c .state) calls
 
-abbrev pub DifferByLessThan : ℕ → ℕ → ℕ → Type 0
-DifferByLessThan a b d = (a < b + d) × (b < a + d)
+  -- It has one before and after every call.
+  abbrev pub WaitingThroughout : Stretch → ℕ → Type 0
+  WaitingThroughout x f = Waiting (K .scheduler (begun x .state)) f × WaitingAfterEvery f (begun x .state) (x .calls)
 
--- ---- bursts, one departure at a time
+  -- What leaves, and the turns that are completed, in order.
+  abbrev pub sentIn : K .State → List (K .Call) → List (K .Departure)
+  sentIn s calls = leftOver (seenOver K s calls)
 
--- A burst that is not refused is as many single departures: so a stretch may begin and end within one.
-unfoldable pub singly : Call → List Call
-singly resetting = resetting ∷ []
-singly (opening f weight) = opening f weight ∷ []
-singly (offering f size) = offering f size ∷ []
-singly departing = departing ∷ []
-singly (bursting n list) = ifZero (burstRefusal n list) (replicate n departing) []
+  abbrev pub turnsIn : K .State → List (K .Call) → List Sent
+  turnsIn s calls = over K (λ (e : Effect (K .State) (K .Packet) (K .Departure)). e .completes) s calls
 
-unfoldable pub oneByOne : List Call → List Call
-oneByOne [] = []
-oneByOne (c ∷ calls) = singly c ++ oneByOne calls
+  abbrev pub bytesSent : Stretch → ℕ → ℕ
+  bytesSent x f = bytesOf f (sentIn (begun x .state) (x .calls))
+
+  -- The largest packet that anyone has sent, from the last reset to the end of the stretch.
+  abbrev pub largestSinceReset : Stretch → ℕ
+  largestSinceReset x = largestOf (ended x .left)
+
+  -- The sum, over the turns of flow f that the stretch completes, of one plus the mark of the turn's round.
+  abbrev pub onePlusMarks : Stretch → ℕ → ℕ
+  onePlusMarks x f = sumOf turnFlow f onePlusMark (turnsIn (begun x .state) (x .calls))
+
+  -- Consecutive completed turns of flow f: the stretch begins before the first and ends after the last of them, and f has a packet waiting after every
+  -- call of it.
+  pub record ConsecutiveTurns (x : Stretch) (f : ℕ) : Type 0 where
+    pub before-the-first : BetweenTurns (K .scheduler (begun x .state)) f
+    pub after-the-last : BetweenTurns (K .scheduler (ended x .state)) f
+    pub waiting-after-every : WaitingAfterEvery f (begun x .state) (x .calls)
+
+  abbrev pub weightOf : Stretch → ℕ → ℕ
+  weightOf x f = flowAt (K .scheduler (begun x .state)) f .weight
+
+  abbrev pub surplusBefore : Stretch → ℕ → ℕ
+  surplusBefore x f = flowAt (K .scheduler (begun x .state)) f .surplus
+
+  abbrev pub surplusAfter : Stretch → ℕ → ℕ
+  surplusAfter x f = flowAt (K .scheduler (ended x .state)) f .surplus
