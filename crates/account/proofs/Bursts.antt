@@ -38,10 +38,10 @@ abbrev historyOf : Scheduler → List Packet → List Sent → OrderHistory
 historyOf s accepted left = record { state = s; accepted = accepted; left = left }
 
 -- What leaves from a history on, and the turns that are completed.
-abbrev sentFrom : OrderHistory → List Call → List Sent
+abbrev pub sentFrom : OrderHistory → List Call → List Sent
 sentFrom h calls = sentIn orderCalls (h .state) calls
 
-abbrev turnsFrom : OrderHistory → List Call → List Sent
+abbrev pub turnsFrom : OrderHistory → List Call → List Sent
 turnsFrom h calls = turnsIn orderCalls (h .state) calls
 
 -- From h these calls give this history, these departures and these turns.
