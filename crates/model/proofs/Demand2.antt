@@ -90,32 +90,3 @@ idle-when-nothing-waits s R = (λ e. only e (sends-or-stays s), λ h. if h (send
     if : ((f : ℕ) → flowAt s f .queue ≡ []) → SendsOrStays s → departed s .reply ≡ Idle
     if h (sends d i) = absurd (omega (arith, ap length (departed-leaves s R d i .first-in-queue), ap length (h (d .flow))))
     if h (stays i same t l) = i
-
--- Idle gives back the state as it was.
-pub idle-changes-nothing : (s : Scheduler) → departed s .reply ≡ Idle → departed s .state ≡ s
-idle-changes-nothing s e = idle-stays s e
-
--- A refusal gives back the state as it was, and burst's the list too.
-unless-refused : (n : ℕ) (s t : Scheduler) (k : ℕ) → unlessRefused n s t .reply ≡ AnswerRefused k → unlessRefused n s t .state ≡ s
-unfolding unlessRefused
-unless-refused zero s t k e = let z : _≡_ {A = ℕ} 0 1 = cc in absurd (omega arith)
-unless-refused (suc n) s t k e = refl
-
-pub refused-open-changes-nothing : (s : Scheduler) (f weight k : ℕ) → opened s f weight .reply ≡ AnswerRefused k → opened s f weight .state ≡ s
-unfolding opened
-refused-open-changes-nothing s f weight k e = unless-refused (openRefusal f weight (flowAt s f)) s _ k e
-
-pub refused-offer-changes-nothing : (s : Scheduler) (f size k : ℕ) → offered s f size .reply ≡ AnswerRefused k → offered s f size .state ≡ s
-unfolding offered
-refused-offer-changes-nothing s f size k e = unless-refused (offerRefusal f size (flowAt s f)) s _ k e
-
-pub refused-burst-changes-nothing : (s : Scheduler) (n : ℕ) (list : List ℕ) (k : ℕ) → burst s n list .reply ≡ CountRefused k
-    → (burst s n list .state ≡ s) × (burst s n list .list ≡ list)
-unfolding burst burstMade
-refused-burst-changes-nothing s n list k e = by (burstRefusal n list) (CountRefused (burstRefusal n list)) e
-  where
-    by : (m : ℕ) (c : Count) → ifZero m (burstMade list (departures n s)) (record { state = s; list = list; reply = c }) .reply ≡ CountRefused k
-        → (ifZero m (burstMade list (departures n s)) (record { state = s; list = list; reply = c }) .state ≡ s)
-        × (ifZero m (burstMade list (departures n s)) (record { state = s; list = list; reply = c }) .list ≡ list)
-    by zero c i = let z : _≡_ {A = ℕ} 0 1 = cc in absurd (omega arith)
-    by (suc m) c i = (refl, refl)

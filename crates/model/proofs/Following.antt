@@ -1,6 +1,6 @@
 -- A run of code goes as the chain of the same calls, if each call does: what is seen of it is what the definitions' call shows, and the state that it gives
 -- back stands for the one that the definitions' call gives.
-use mathlib.Core.Path.{_≡_, refl, ap, ap₂, _∙_}
+use mathlib.Core.Path.{_≡_, refl, sym, ap, ap₂, _∙_, subst}
 use mathlib.Core.List.{List, [], _∷_}
 use Rattle.model.specs.Chain.{Seen, Kind, History, HistoryOf, moved, next, chain, over, seenOver}
 use Rattle.model.specs.Runs.{Run, ends, goes-on}
@@ -41,3 +41,15 @@ module _ (K : Kind) {S : Type 0} (Does : S → K .Call → S → Seen (K .Packet
     run-seen (goes-on {h} {k} {c} {calls} {s} {e} does run) m B =
         let F = follows (h .state) (m .state) c s e (B .stands) does in
         ap₂ (λ f l. f ∷ l) (F .seen-same) (run-seen run (next K m c) (moved-beside B F))
+
+    -- One outcome meets the contract, where what stands for a state has one form; and where the definitions' call leaves the state, so does the code's.
+    module _ (same-form : (s t : S) (m : K .State) → Stands s m → Stands t m → s ≡ t) where
+      pub one-outcome : {s t u : S} {m : K .State} {c : K .Call} {d e : Seen (K .Packet) (K .Departure)} → Stands s m → Does s c t d → Does s c u e → (t ≡ u) × (d ≡ e)
+      one-outcome {s} {t} {u} {m} {c} {d} {e} S x y =
+          let F = follows s m c t d S x in
+          let G = follows s m c u e S y in
+          (same-form t u (K .does m c .state) (F .stands-then) (G .stands-then), F .seen-same ∙ sym (G .seen-same))
+
+      pub left-as-it-was : {s t : S} {m : K .State} {c : K .Call} {e : Seen (K .Packet) (K .Departure)} → Stands s m → Does s c t e → K .does m c .state ≡ m → t ≡ s
+      left-as-it-was {s} {t} {m} {c} {e} S x stays =
+          same-form t s m (subst (Stands t) stays (follows s m c t e S x .stands-then)) S

@@ -3,6 +3,7 @@
 --
 -- They rest on Keeps (every call keeps the rules, by Counts, Line and Flows), Departing (what a departure does to its flow and to the others), Queues
 -- (what waits, call by call) and Chains (lists of calls). Choosing, Parts, Rounding and Refusals are small laws of the definitions.
+pub mod Rows
 pub mod Bench
 pub mod Choosing
 pub mod Parts
@@ -20,3 +21,4 @@ pub mod Chains
 pub mod Demand2
 pub mod Slots
 pub mod Following
+pub mod Unchanged

@@ -2,7 +2,7 @@
 use Prim.Native.Nat.{ℕ, zero, suc}
 use mathlib.Core.Path.{_≡_}
 use mathlib.Core.List.{List, [], _∷_, _++_, map}
-use mathlib.Core.Bool.{cond}
+use mathlib.Core.Bool.{Bool, true, false, cond}
 use lib.Dec.{eqb}
 use Rattle.model.specs.Model.{Scheduler, newScheduler}
 use Rattle.model.specs.Calls.{opened, offered, departed, departures, burst}
@@ -68,6 +68,22 @@ orderCalls =
       flowOf = λ d. d .flow;
       sizeOf = λ d. d .size;
     }
+
+-- The list that is lent to a call.
+abbrev pub lentTo : Call → List ℕ
+lentTo resetting = []
+lentTo (opening f weight) = []
+lentTo (offering f size) = []
+lentTo departing = []
+lentTo (bursting n list) = list
+
+-- Whether a call asks for departures.
+abbrev pub asksForDepartures : Call → Bool
+asksForDepartures resetting = false
+asksForDepartures (opening f weight) = false
+asksForDepartures (offering f size) = false
+asksForDepartures departing = true
+asksForDepartures (bursting n list) = true
 
 -- The sizes of the packets of flow f, in order.
 unfoldable pub sizesOf : ℕ → List Packet → List ℕ

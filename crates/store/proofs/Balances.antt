@@ -159,7 +159,7 @@ module _ (s : Scheduler) (R : Rules s) (store : List ℕ) (whole : length store 
     unfolding offered unlessRefused
     state-joined = offer-state s f packet (lent n store) (offer-may s f packet (lent n store) e .0) ∙ zero-chosen (offerRefusal f (length packet) (flowAt s f)) _ s (offer-may s f packet (lent n store) e .1)
 
-    store-joined : back store n (offerMade .store) ≡ storedIn s store f packet
+    pub store-joined : back store n (offerMade .store) ≡ storedIn s store f packet
     store-joined =
         ap (back store n) (offer-stores s f packet (lent n store) e ∙ ap (λ (l : List ℕ). written l f (nextSlotOf (flowAt s f)) packet) (lent-whole n store all-lent))
         ∙ back-whole n store (storedIn s store f packet) all-lent

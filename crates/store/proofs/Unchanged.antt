@@ -1,83 +1,91 @@
--- A refusal changes neither the site nor any buffer lent to the call, and idle changes none of them either.
-use Prim.Native.Nat.{ℕ, zero, suc}
-use mathlib.Core.Path.{_≡_, refl, sym, ap, _∙_}
+-- What a refusal and an idle departure leave: scheduler, store and outgoing buffer as they were.
+use Prim.Native.Nat.{ℕ, zero, suc, _≤_}
+use mathlib.Core.Path.{_≡_, refl, sym, ap, ap₂, _∙_}
 use mathlib.Core.List.{List, [], _∷_}
+use mathlib.Core.Bool.{true}
 use native.Mathlib.Omega.{arith}
-use Rattle.model.specs.Model.{Scheduler}
-use Rattle.model.specs.Calls.{opened, departed}
-use Rattle.model.specs.Replies.{sentBy}
-use Rattle.model.specs.declared.Answer.the-variants.{Refused as AnswerRefused}
+use lib.ListN.{length}
+use Rattle.model.specs.Model.{Scheduler, flowAt}
+use Rattle.model.specs.Calls.{opened, departed, openRefusal, answerOf, unlessRefused}
+use Rattle.model.specs.Replies.{ofAnswer, ofReply, sentBy}
 use Rattle.model.specs.declared.Reply.{Reply}
 use Rattle.model.specs.declared.Reply.the-variants.{Departure, Idle, Refused}
-use Rattle.store.specs.Calls.{storeOffer, storeOfferRefusal, storeDepart, storeDepartRefusal}
-use Rattle.store.specs.Promised.{schedulerOf, SoundSite, siteOf, answeredAs, departedAs, OpenGives, OfferGives, DepartGives}
-use Rattle.store.specs.declared.Site.{Site}
-use Rattle.store.specs.declared.SiteAnswered.{SiteAnswered}
-use Rattle.store.specs.declared.SiteDeparted.{SiteDeparted}
-use Rattle.store.proofs.CallLaws.{refused-number, offer-refused, offer-number, depart-refused, depart-made, sent-nothing}
-use Rattle.model.proofs.Demand2.{refused-open-changes-nothing as refused-open-stays}
 use Rattle.model.proofs.Departing.{idle-stays, never-refused}
-use Rattle.store.proofs.SiteLaws.{site-form}
+use Rattle.model.proofs.Unchanged.{unless-refused}
+use Rattle.store.specs.Calls.{storeOffer, storeOfferRefusal, storeDepart, storeDepartRefusal}
+use Rattle.store.specs.StoreCalls.{StoreCall, WithStore, withStore, resetting, opening, offering, departing, lent, back, putOut, does, lentTo, asksForDepartures}
+use Rattle.store.proofs.CallLaws.{offer-refused, offer-number, depart-refused, depart-made, sent-nothing}
+use Rattle.store.proofs.Lending.{back-untouched}
 
--- Of the definitions' calls.
-offer-refused-stays : (s : Scheduler) (f : ℕ) (packet store : List ℕ) (n : ℕ) → storeOffer s f packet store .answer ≡ AnswerRefused n
-    → (storeOffer s f packet store .state ≡ s) × (storeOffer s f packet store .store ≡ store)
-offer-refused-stays s f packet store n e =
-    offer-refused s f packet store (refused-number (storeOfferRefusal s f packet store) n (sym (offer-number s f packet store) ∙ e))
+abbrev pub Unchanged : WithStore Scheduler → StoreCall → Type 0
+Unchanged s c = (does s c .state ≡ s) × (does s c .seen .lent ≡ lentTo c)
 
--- A departure call that tells of no departure.
-depart-none-stays : (s : Scheduler) (store out : List ℕ) → sentBy (storeDepart s store out .reply) ≡ []
-    → (storeDepart s store out .state ≡ s) × (storeDepart s store out .out ≡ out)
-depart-none-stays s store out none = by (storeDepartRefusal store out) refl
-  where
-    reply-by : (reply : Reply) → departed s .reply ≡ reply → storeDepartRefusal store out ≡ 0
-        → (storeDepart s store out .state ≡ s) × (storeDepart s store out .out ≡ out)
-    reply-by (Departure d) e z =
-        let one : d ∷ [] ≡ [] = sym (ap sentBy (depart-made s store out z .2 ∙ e)) ∙ none in
-        let absurdity : _≡_ {A = ℕ} 0 1 = cc in absurd (omega arith)
-    reply-by Idle e z = (
-      depart-made s store out z .0 ∙ idle-stays s e,
-      depart-made s store out z .1 ∙ sent-nothing s store out (departed s .reply) (λ d h. let both : Departure d ≡ Idle = sym h ∙ e in let absurdity : _≡_ {A = ℕ} 0 1 = cc in absurd (omega arith)),
-    )
-    reply-by (Refused k) e z = absurd (never-refused s k e)
+-- A refusal's number says that the offer was refused.
+refused-by : (n : ℕ) → 1 ≤ ofAnswer (answerOf n) .refusal → n ≡ 0 → ⊥
+refused-by zero refused e = absurd (omega arith)
+refused-by (suc n) refused e = absurd (omega arith)
 
-    by : (n : ℕ) → storeDepartRefusal store out ≡ n → (storeDepart s store out .state ≡ s) × (storeDepart s store out .out ≡ out)
-    by zero z = reply-by (departed s .reply) refl z
-    by (suc n) z = (depart-refused s store out n z .0, depart-refused s store out n z .1)
+offer-stays : (s : WithStore Scheduler) (f : ℕ) (packet : List ℕ) (n : ℕ)
+    → 1 ≤ ofAnswer (storeOffer (s .keeper) f packet (lent n (s .store)) .answer) .refusal
+    → withStore (storeOffer (s .keeper) f packet (lent n (s .store)) .state) (back (s .store) n (storeOffer (s .keeper) f packet (lent n (s .store)) .store)) ≡ s
+offer-stays s f packet n refused =
+    let number : 1 ≤ ofAnswer (answerOf (storeOfferRefusal (s .keeper) f packet (lent n (s .store)))) .refusal =
+    rw (sym (offer-number (s .keeper) f packet (lent n (s .store)))) refused in
+    let stays = offer-refused (s .keeper) f packet (lent n (s .store)) (refused-by (storeOfferRefusal (s .keeper) f packet (lent n (s .store))) number) in
+    ap₂ (λ (k : Scheduler) (l : List ℕ). withStore k l) (stays .0) (ap (back (s .store) n) (stays .1) ∙ back-untouched n (s .store))
 
--- Of the calls of the code.
-module _ (site : Site) (S : SoundSite site) where
-  as-it-was : (r : Site) (t : Scheduler) → r ≡ siteOf t → t ≡ schedulerOf site → r ≡ site
-  as-it-was r t e stays = e ∙ ap siteOf stays ∙ sym (site-form site S)
-
-  pub refused-open-changes-nothing : {f weight n : ℕ} {r : SiteAnswered} → OpenGives site f weight r → r .answer ≡ AnswerRefused n → r .site ≡ site
-  unfolding answeredAs
-  refused-open-changes-nothing {f} {weight} {n} {r} g e =
-      as-it-was (r .site) (opened (schedulerOf site) f weight .state) (ap (λ (a : SiteAnswered). a .site) (g .outcome))
-      (refused-open-stays (schedulerOf site) f weight n (sym (ap (λ (a : SiteAnswered). a .answer) (g .outcome)) ∙ e))
-
-  pub refused-offer-changes-nothing : {f n : ℕ} {packet store after : List ℕ} {r : SiteAnswered} → OfferGives site f packet store after r
-      → r .answer ≡ AnswerRefused n → (r .site ≡ site) × (after ≡ store)
-  unfolding answeredAs
-  refused-offer-changes-nothing {f} {n} {packet} {store} {after} {r} g e =
-      let stays = offer-refused-stays (schedulerOf site) f packet store n (sym (ap (λ (a : SiteAnswered). a .answer) (g .outcome)) ∙ e) in (
-        as-it-was (r .site) (storeOffer (schedulerOf site) f packet store .state) (ap (λ (a : SiteAnswered). a .site) (g .outcome)) (stays .0),
-        g .stored ∙ stays .1,
+-- A departure call with which nothing leaves.
+module _ (s : Scheduler) (store out : List ℕ) where
+  unsent-stays : sentBy (storeDepart s store out .reply) ≡ [] → (storeDepart s store out .state ≡ s) × (storeDepart s store out .out ≡ out)
+  unsent-stays none = by (storeDepartRefusal store out) refl
+    where
+      reply-by : (reply : Reply) → departed s .reply ≡ reply → storeDepartRefusal store out ≡ 0
+          → (storeDepart s store out .state ≡ s) × (storeDepart s store out .out ≡ out)
+      reply-by (Departure d) e z =
+          let one : d ∷ [] ≡ [] = sym (ap sentBy (depart-made s store out z .2 ∙ e)) ∙ none in
+          let absurdity : _≡_ {A = ℕ} 1 0 = ap {B = ℕ} length one in absurd (omega arith)
+      reply-by Idle e z = (
+        depart-made s store out z .0 ∙ idle-stays s e,
+        depart-made s store out z .1 ∙ sent-nothing s store out (departed s .reply) (λ d h. let both : Departure d ≡ Idle = sym h ∙ e in let absurdity : _≡_ {A = ℕ} 0 1 = cc in absurd (omega arith)),
       )
+      reply-by (Refused k) e z = absurd (never-refused s k e)
 
-  none-left-changes-nothing : {store out after : List ℕ} {r : SiteDeparted} → DepartGives site store out after r → sentBy (r .reply) ≡ []
-      → (r .site ≡ site) × (after ≡ out)
-  unfolding departedAs
-  none-left-changes-nothing {store} {out} {after} {r} g none =
-      let stays = depart-none-stays (schedulerOf site) store out (sym (ap (λ (a : SiteDeparted). sentBy (a .reply)) (g .outcome)) ∙ none) in (
-        as-it-was (r .site) (storeDepart (schedulerOf site) store out .state) (ap (λ (a : SiteDeparted). a .site) (g .outcome)) (stays .0),
-        g .sent ∙ stays .1,
-      )
+      by : (n : ℕ) → storeDepartRefusal store out ≡ n → (storeDepart s store out .state ≡ s) × (storeDepart s store out .out ≡ out)
+      by zero z = reply-by (departed s .reply) refl z
+      by (suc n) z = (depart-refused s store out n z .0, depart-refused s store out n z .1)
 
-  pub refused-departure-changes-nothing : {n : ℕ} {store out after : List ℕ} {r : SiteDeparted} → DepartGives site store out after r
-      → r .reply ≡ Refused n → (r .site ≡ site) × (after ≡ out)
-  refused-departure-changes-nothing g e = none-left-changes-nothing g (ap sentBy e)
+refused-sends-none : (reply : Reply) → 1 ≤ ofReply reply .refusal → sentBy reply ≡ []
+refused-sends-none (Departure d) refused = absurd (omega arith)
+refused-sends-none Idle refused = absurd (omega arith)
+refused-sends-none (Refused k) refused = refl
 
-  pub idle-changes-nothing : {store out after : List ℕ} {r : SiteDeparted} → DepartGives site store out after r → r .reply ≡ Idle
-      → (r .site ≡ site) × (after ≡ out)
-  idle-changes-nothing g e = none-left-changes-nothing g (ap sentBy e)
+none-put-out : (reply : Reply) (out : List ℕ) → putOut reply out ≡ [] → sentBy reply ≡ []
+unfolding putOut
+none-put-out (Departure d) out none = let absurdity : _≡_ {A = ℕ} 1 0 = ap {B = ℕ} length none in absurd (omega arith)
+none-put-out Idle out none = refl
+none-put-out (Refused k) out none = refl
+
+departure-stays : (s : WithStore Scheduler) (n : ℕ) (out : List ℕ) → sentBy (storeDepart (s .keeper) (lent n (s .store)) out .reply) ≡ []
+    → (withStore (storeDepart (s .keeper) (lent n (s .store)) out .state) (s .store) ≡ s) × (storeDepart (s .keeper) (lent n (s .store)) out .out ≡ out)
+departure-stays s n out none =
+    let stays = unsent-stays (s .keeper) (lent n (s .store)) out none in
+    (ap (λ (k : Scheduler). withStore k (s .store)) (stays .0), stays .1)
+
+-- A refusal changes nothing.
+pub refused-unchanged : (s : WithStore Scheduler) (c : StoreCall) → 1 ≤ does s c .seen .says .refusal → Unchanged s c
+unfolding does opened
+refused-unchanged s resetting refused = absurd (omega arith)
+refused-unchanged s (opening f weight) refused =
+    (ap (λ (k : Scheduler). withStore k (s .store)) (unless-refused (openRefusal f weight (flowAt (s .keeper) f)) (s .keeper) _ refused), refl)
+refused-unchanged s (offering f packet n) refused = (offer-stays s f packet n refused, refl)
+refused-unchanged s (departing n out) refused =
+    departure-stays s n out (refused-sends-none (storeDepart (s .keeper) (lent n (s .store)) out .reply) refused)
+
+-- Nor does a departure call with which nothing leaves.
+pub unsent-unchanged : (s : WithStore Scheduler) (c : StoreCall) → asksForDepartures c ≡ true → does s c .seen .sends ≡ [] → Unchanged s c
+unfolding does
+unsent-unchanged s resetting asks none = let z : _≡_ {A = ℕ} 0 1 = cc in absurd (omega arith)
+unsent-unchanged s (opening f weight) asks none = let z : _≡_ {A = ℕ} 0 1 = cc in absurd (omega arith)
+unsent-unchanged s (offering f packet n) asks none = let z : _≡_ {A = ℕ} 0 1 = cc in absurd (omega arith)
+unsent-unchanged s (departing n out) asks none =
+    departure-stays s n out (none-put-out (storeDepart (s .keeper) (lent n (s .store)) out .reply) (storeDepart (s .keeper) (lent n (s .store)) out .out) none)

@@ -2,7 +2,7 @@
 use Prim.Native.Nat.{ℕ, _-_}
 use mathlib.Core.Path.{_≡_}
 use mathlib.Core.List.{List, [], _∷_, _++_, map}
-use mathlib.Core.Bool.{cond}
+use mathlib.Core.Bool.{Bool, true, false, cond}
 use lib.ListN.{length, take, drop, replicate}
 use lib.Dec.{eqb}
 use Rattle.model.specs.Model.{Scheduler, flowAt, newScheduler}
@@ -90,6 +90,20 @@ storeCalls =
       flowOf = λ p. p .flow;
       sizeOf = λ p. length (p .bytes);
     }
+
+-- The outgoing buffer that is lent to a call.
+abbrev pub lentTo : StoreCall → List ℕ
+lentTo resetting = []
+lentTo (opening f weight) = []
+lentTo (offering f packet n) = []
+lentTo (departing n out) = out
+
+-- Whether a call asks for departures.
+abbrev pub asksForDepartures : StoreCall → Bool
+asksForDepartures resetting = false
+asksForDepartures (opening f weight) = false
+asksForDepartures (offering f packet n) = false
+asksForDepartures (departing n out) = true
 
 -- The bytes of the packets of flow f, packet by packet, in order.
 unfoldable pub bytesOf : ℕ → List Packet → List (List ℕ)

@@ -1,0 +1,53 @@
+-- The two layers of the box: the order layer knows packet sizes only, the store layer also moves the packet bytes.
+use Prim.Native.Nat.{ℕ}
+use mathlib.Core.Path.{_≡_}
+use mathlib.Core.List.{List}
+use lib.ListN.{length}
+use Rattle.model.specs.Model.{Scheduler, flowAt, newScheduler}
+use Rattle.model.specs.OrderCalls.{orderCalls, sizesOf, packetsOf}
+use Rattle.model.specs.OrderCalls as OrderCall
+use Rattle.order.specs.Encoding.{Sound}
+use Rattle.order.specs.Promised as Order
+use Rattle.order.specs.Runs as OrderCode
+use Rattle.order.specs.declared.State.{State}
+use Rattle.store.specs.Slots.{storeLength}
+use Rattle.store.specs.Promised.{SoundSite}
+use Rattle.store.specs.Promised as Store
+use Rattle.store.specs.StoreCalls.{WithStore, withStore, storeCalls, bytesOf, waitingBytes}
+use Rattle.store.specs.StoreCalls as StoreCall
+use Rattle.store.specs.Runs as StoreCode
+use Rattle.store.specs.declared.Site.{Site}
+use Rattle.demands.specs.Demands.{Layer}
+
+abbrev pub orderLayer : Layer
+orderLayer =
+    record {
+      kind = orderCalls;
+      State = State;
+      Does = OrderCode.Does;
+      New = λ c s. Order.NewGives c × (s ≡ newScheduler);
+      Premise = Sound;
+      lentTo = OrderCall.lentTo;
+      asksForDepartures = OrderCall.asksForDepartures;
+      Load = ℕ;
+      accepted = sizesOf;
+      left = λ f l. sizesOf f (packetsOf l);
+      waiting = λ f s. flowAt s f .queue;
+    }
+
+-- The store may hold anything at first.
+abbrev pub storeLayer : Layer
+storeLayer =
+    record {
+      kind = storeCalls;
+      State = WithStore Site;
+      Does = StoreCode.Does;
+      New = λ c s. Store.NewGives (c .keeper) × (s ≡ withStore newScheduler (c .store)) × (length (c .store) ≡ storeLength);
+      Premise = λ c. SoundSite (c .keeper);
+      lentTo = StoreCall.lentTo;
+      asksForDepartures = StoreCall.asksForDepartures;
+      Load = List ℕ;
+      accepted = bytesOf;
+      left = bytesOf;
+      waiting = λ f s. waitingBytes (s .keeper) (s .store) f;
+    }
