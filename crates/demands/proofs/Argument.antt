@@ -40,7 +40,7 @@ module _ (L : Layer) where
 
   module _ (G : Grounds) where
     -- Where calls have led, the code's history lies beside the definitions'.
-    beside : {first : K .State} {calls : List (K .Call)} {h : CodeHistory L} {seen : List (SeenOf L)} → Reached L first calls h seen
+    pub beside : {first : K .State} {calls : List (K .Call)} {h : CodeHistory L} {seen : List (SeenOf L)} → Reached L first calls h seen
         → Beside K (L .Does) (G .Stands) h (chain K (begin first) calls)
     beside {first} R =
         run-beside K (L .Does) (G .Stands) (G .follows) (R .run) (begin first)

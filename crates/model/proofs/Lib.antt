@@ -22,3 +22,4 @@ pub mod Demand2
 pub mod Slots
 pub mod Following
 pub mod Unchanged
+pub mod Bursting

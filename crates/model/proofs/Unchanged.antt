@@ -91,6 +91,14 @@ pub answer-not-zero : (n : ℕ) → answerOf n ≡ AnswerRefused 0 → ⊥
 answer-not-zero zero e = let z : _≡_ {A = ℕ} 0 1 = cc in absurd (omega arith)
 answer-not-zero (suc n) e = let z : _≡_ {A = ℕ} (ofAnswer (AnswerRefused (suc n)) .refusal) 0 = ap {B = ℕ} (λ a. ofAnswer a .refusal) e in absurd (omega arith)
 
+pub open-not-zero : (s : Scheduler) (f weight : ℕ) → opened s f weight .reply ≡ AnswerRefused 0 → ⊥
+unfolding opened unlessRefused
+open-not-zero s f weight = answer-not-zero (openRefusal f weight (flowAt s f))
+
+pub offer-not-zero : (s : Scheduler) (f size : ℕ) → offered s f size .reply ≡ AnswerRefused 0 → ⊥
+unfolding offered unlessRefused
+offer-not-zero s f size = answer-not-zero (offerRefusal f size (flowAt s f))
+
 pub count-not-zero : (s : Scheduler) (n : ℕ) (list : List ℕ) → burst s n list .reply ≡ CountRefused 0 → ⊥
 unfolding burst burstMade
 count-not-zero s n list = by (burstRefusal n list)

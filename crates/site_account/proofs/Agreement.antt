@@ -20,7 +20,7 @@ use Rattle.site_account.proofs.Beside.{Beside, GoBeside, go-beside}
 abbrev pub asCalls : Stretch storeCalls → Stretch orderCalls
 asCalls x = record { first = newScheduler; new = refl; before = allOnSizes (x .before); calls = allOnSizes (x .calls) }
 
-start-beside : (first : List ℕ) → length first ≡ storeLength → Beside (start first) OnSizes.start
+pub start-beside : (first : List ℕ) → length first ≡ storeLength → Beside (start first) OnSizes.start
 unfolding chain
 start-beside first whole = record { kept = every-history-kept first whole []; same-state = refl; same-left = refl }
 

@@ -1,4 +1,4 @@
--- Demand 3 over store calls, proved. Theorems has the statements, Reached their numbers on one stretch.
+-- Demand 3 over store calls, proved. Theorems has the statements, Reached their numbers on one stretch, Slots the slots that packets take.
 --
 -- A stretch of store calls goes beside the order layer's stretch of the same offers and departures (Beside): states are the same, and of each packet
 -- that leaves as many bytes are copied as the reply tells. The numbers of demand 3 are made of flows and lengths alone (Packets), so both stretches
@@ -7,4 +7,5 @@ pub mod Packets
 pub mod Beside
 pub mod Agreement
 pub mod Theorems
+pub mod Slots
 pub mod Reached

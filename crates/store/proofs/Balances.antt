@@ -11,8 +11,9 @@ use Rattle.model.specs.Choose.{ifZero}
 use Rattle.model.specs.Model.{Flow, Scheduler, flowAt, newScheduler}
 use Rattle.model.specs.Steps.{packetJoined, flowLined, nextSlotOf}
 use Rattle.model.specs.Calls.{put, openFlow, opened, openRefusal, offered, offerRefusal, departed, answerOf, unlessRefused}
-use Rattle.model.specs.Replies.{sentBy, takenBy}
+use Rattle.model.specs.Replies.{ofAnswer, sentBy, takenBy}
 use Rattle.model.specs.Rules.{Rules}
+use Rattle.model.specs.declared.Answer.{Answer}
 use Rattle.model.specs.declared.Reply.{Reply}
 use Rattle.model.specs.declared.Reply.the-variants.{Departure, Idle, Refused}
 use Rattle.model.specs.declared.Sent.{Sent}
@@ -159,7 +160,7 @@ module _ (s : Scheduler) (R : Rules s) (store : List ℕ) (whole : length store 
     unfolding offered unlessRefused
     state-joined = offer-state s f packet (lent n store) (offer-may s f packet (lent n store) e .0) ∙ zero-chosen (offerRefusal f (length packet) (flowAt s f)) _ s (offer-may s f packet (lent n store) e .1)
 
-    pub store-joined : back store n (offerMade .store) ≡ storedIn s store f packet
+    store-joined : back store n (offerMade .store) ≡ storedIn s store f packet
     store-joined =
         ap (back store n) (offer-stores s f packet (lent n store) e ∙ ap (λ (l : List ℕ). written l f (nextSlotOf (flowAt s f)) packet) (lent-whole n store all-lent))
         ∙ back-whole n store (storedIn s store f packet) all-lent
@@ -177,6 +178,15 @@ module _ (s : Scheduler) (R : Rules s) (store : List ℕ) (whole : length store 
       by (suc m) e g =
           let kept = offer-refused s f packet (lent n store) (λ z. absurd (omega arith)) in
           nothing-moves s (offerMade .state) store (back store n (offerMade .store)) (kept .0) (ap (back store n) (kept .1) ∙ back-untouched n store) g
+
+  -- Where it says no refusal, the store has the packet in the flow's next slot.
+  pub accepted-is-stored : ofAnswer (offerMade .answer) .refusal ≡ 0 → back store n (offerMade .store) ≡ storedIn s store f packet
+  accepted-is-stored none =
+      store-joined (accepted-number (storeOfferRefusal s f packet (lent n store)) (sym (ap (λ (a : Answer). ofAnswer a .refusal) (offer-number s f packet (lent n store))) ∙ none))
+    where
+      accepted-number : (m : ℕ) → ofAnswer (answerOf m) .refusal ≡ 0 → m ≡ 0
+      accepted-number zero e = refl
+      accepted-number (suc m) e = e
 
 -- The bytes that a flow's first slot held.
 abbrev firstHeld : Scheduler → List ℕ → Sent → List ℕ

@@ -11,7 +11,8 @@ use Rattle.model.specs.Replies.{ofAnswer, ofReply, sentBy}
 use Rattle.model.specs.declared.Reply.{Reply}
 use Rattle.model.specs.declared.Reply.the-variants.{Departure, Idle, Refused}
 use Rattle.model.proofs.Departing.{idle-stays, never-refused}
-use Rattle.model.proofs.Unchanged.{unless-refused}
+use Rattle.model.specs.declared.Answer.the-variants.{Refused as AnswerRefused}
+use Rattle.model.proofs.Unchanged.{unless-refused, answer-not-zero}
 use Rattle.store.specs.Calls.{storeOffer, storeOfferRefusal, storeDepart, storeDepartRefusal}
 use Rattle.store.specs.StoreCalls.{StoreCall, WithStore, withStore, resetting, opening, offering, departing, lent, back, putOut, does, lentTo, asksForDepartures}
 use Rattle.store.proofs.CallLaws.{offer-refused, offer-number, depart-refused, depart-made, sent-nothing}
@@ -89,3 +90,14 @@ unsent-unchanged s (opening f weight) asks none = let z : _≡_ {A = ℕ} 0 1 = 
 unsent-unchanged s (offering f packet n) asks none = let z : _≡_ {A = ℕ} 0 1 = cc in absurd (omega arith)
 unsent-unchanged s (departing n out) asks none =
     departure-stays s n out (none-put-out (storeDepart (s .keeper) (lent n (s .store)) out .reply) (storeDepart (s .keeper) (lent n (s .store)) out .out) none)
+
+-- A refusal's number is not 0.
+pub offer-not-zero : (s : Scheduler) (f : ℕ) (packet store : List ℕ) → storeOffer s f packet store .answer ≡ AnswerRefused 0 → ⊥
+offer-not-zero s f packet store e = answer-not-zero (storeOfferRefusal s f packet store) (sym (offer-number s f packet store) ∙ e)
+
+pub departure-not-zero : (s : Scheduler) (store out : List ℕ) → storeDepart s store out .reply ≡ Refused 0 → ⊥
+departure-not-zero s store out e = by (storeDepartRefusal store out) refl
+  where
+    by : (n : ℕ) → storeDepartRefusal store out ≡ n → ⊥
+    by zero z = never-refused s 0 (sym (depart-made s store out z .2) ∙ e)
+    by (suc n) z = let number : _≡_ {A = ℕ} (suc n) 0 = ap {B = ℕ} (λ r. ofReply r .refusal) (sym (depart-refused s store out n z .2) ∙ e) in absurd (omega arith)
