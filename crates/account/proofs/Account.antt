@@ -57,17 +57,17 @@ move-balances f {c} {c′} {l} {e} (flow-opens {g = g} only z out) w =
     (λ q v. rw (only f q) (omega arith))
     w
 
--- A run balances it too, and its weight stays.
+-- So do moves one after the other, and its weight stays.
 module _ (f : ℕ) {Wanted : (ℕ → Flow) → Type 0} (waits : (flow : ℕ → Flow) → Wanted flow → Waits (flow f)) where
-  pub run-keeps-weight : {c c′ : Circle} {l e : List Sent} → Moves Wanted c c′ l e → c′ .flow f .weight ≡ c .flow f .weight
-  run-keeps-weight stands = refl
-  run-keeps-weight {c} {c′} (moves m w) = weight-stays f m (waits (c′ .flow) w)
-  run-keeps-weight (follows r t) = run-keeps-weight t ∙ run-keeps-weight r
+  pub moves-keep-weight : {c c′ : Circle} {l e : List Sent} → Moves Wanted c c′ l e → c′ .flow f .weight ≡ c .flow f .weight
+  moves-keep-weight stands = refl
+  moves-keep-weight {c} {c′} (moves m w) = weight-stays f m (waits (c′ .flow) w)
+  moves-keep-weight (follows r t) = moves-keep-weight t ∙ moves-keep-weight r
 
-  pub run-balances : {c c′ : Circle} {l e : List Sent} → Moves Wanted c c′ l e → Balanced f c c′ l e
+  pub moves-balance : {c c′ : Circle} {l e : List Sent} → Moves Wanted c c′ l e → Balanced f c c′ l e
   unfolding sumOf
-  run-balances stands = omega arith
-  run-balances {c} {c′} (moves m w) = move-balances f m (waits (c′ .flow) w)
-  run-balances (follows {l = l} {l′ = l′} {e = e} {e′ = e′} r t) =
+  moves-balance stands = omega arith
+  moves-balance {c} {c′} (moves m w) = move-balances f m (waits (c′ .flow) w)
+  moves-balance (follows {l = l} {l′ = l′} {e = e} {e′ = e′} r t) =
       rw (sum-append f bytes l l′, sum-append f onePlusMark e e′)
-      (omega (arith, run-balances r, run-balances t, ap (λ (weight : ℕ). weight * sumOfSent f onePlusMark e′) (run-keeps-weight r)))
+      (omega (arith, moves-balance r, moves-balance t, ap (λ (weight : ℕ). weight * sumOfSent f onePlusMark e′) (moves-keep-weight r)))

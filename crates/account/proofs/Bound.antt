@@ -23,7 +23,7 @@ use Rattle.account.proofs.Within.{Within}
 
 -- What the rules of the state say of a flow that waits: it stands once; out of its turn it has at most k on account; and while it has a turn of this
 -- round to complete it has at most what the round allows it.
-pub record Placed (k f : ℕ) (c : Circle) : Type 0 where
+pub record InCircle (k f : ℕ) (c : Circle) : Type 0 where
   pub stands-once : count f (c .next) + count f (thisRound c) ≡ 1
   pub out-of-turn : count f (inTurn (c .turn)) ≡ 0 → onAccount c f ≤ k
   pub in-this-round : 1 ≤ count f (thisRound c) → onAccount c f ≤ c .flow f .weight * (1 + c .mark)
@@ -33,17 +33,17 @@ parted : (f n : ℕ) (out line : List ℕ) → count f (out ++ line) ≡ 1 → c
 parted f n out line e = omega (arith, count-append f out line, count-append f out (take n line), count-parts f n line, e)
 
 module _ (k : ℕ) where
-  placed-in : (f : ℕ) (flow : ℕ → Flow) (r : Round) (turn : Serving) → Waits (flow f) → RoundRules flow r turn → ((g : ℕ) → flow g .surplus ≤ k)
-      → Placed k f
+  in-circle-in : (f : ℕ) (flow : ℕ → Flow) (r : Round) (turn : Serving) → Waits (flow f) → RoundRules flow r turn → ((g : ℕ) → flow g .surplus ≤ k)
+      → InCircle k f
       (circle flow (drop (visitsInLine turn (r .visits)) (r .line)) (take (visitsInLine turn (r .visits)) (r .line)) turn (r .mark) (r .running))
   unfolding RoundRules
-  placed-in f flow r NoTurn w L small =
+  in-circle-in f flow r NoTurn w L small =
       record {
         stands-once = parted f (r .visits) [] (r .line) (L .stands-once f ∙ waiting-is-active (flow f) w);
         out-of-turn = λ z. small f;
         in-this-round = λ h. omega (arith, L .owed-this-round f h);
       }
-  placed-in f flow r (Turn g allowed sent) w (L, T, p) small =
+  in-circle-in f flow r (Turn g allowed sent) w (L, T, p) small =
       record {
         stands-once = parted f (r .visits - 1) (g ∷ []) (r .line) (L .stands-once f ∙ waiting-is-active (flow f) w);
         out-of-turn = same-or-other (λ h. count h (g ∷ []) ≡ 0 → onAccount c h ≤ k) g f (λ z. absurd (omega (arith, count-self g, z))) (λ d z. rw (ne-eqb f g d) (small f));
@@ -56,8 +56,8 @@ module _ (k : ℕ) where
       c : Circle
       c = circle flow (drop (r .visits - 1) (r .line)) (take (r .visits - 1) (r .line)) (Turn g allowed sent) (r .mark) (r .running)
 
-  pub placed : (s : Scheduler) → Rules s → Within k (circleOf s) → (f : ℕ) → Waits (flowAt s f) → Placed k f (circleOf s)
-  placed s R B f w = placed-in f (flowAt s) (s .round) (s .round .turn) w (R .round-rules) (B .surplus-within)
+  pub in-circle : (s : Scheduler) → Rules s → Within k (circleOf s) → (f : ℕ) → Waits (flowAt s f) → InCircle k f (circleOf s)
+  in-circle s R B f w = in-circle-in f (flowAt s) (s .round) (s .round .turn) w (R .round-rules) (B .surplus-within)
 
 -- The three ways in which two flows stand where j leads i, with what they have on account and what is to come for each: both stand for the next round;
 -- only j does; or neither does, and i does not have the turn.
@@ -75,7 +75,7 @@ only-one-has-the-turn (Turn g allowed sent) i j a b = is-g i a ∙ sym (is-g j b
     is-g : (f : ℕ) → 1 ≤ count f (g ∷ []) → f ≡ g
     is-g f h = same-or-other (λ e. 1 ≤ count e (g ∷ []) → e ≡ g) g f (λ v. refl) (λ d v. absurd (omega (arith, count-other f g d, v))) h
 
-module _ {k i j : ℕ} {c : Circle} (pi : Placed k i c) (pj : Placed k j c) (differ : i ≡ j → ⊥) (first : leads j i (order c) ≡ true) where
+module _ {k i j : ℕ} {c : Circle} (pi : InCircle k i c) (pj : InCircle k j c) (differ : i ≡ j → ⊥) (first : leads j i (order c) ≡ true) where
   next-front : 1 ≤ count i (c .next) → 1 ≤ count j (c .next)
   next-front = leader-in-front j i (c .next) (thisRound c) first
 
@@ -121,5 +121,5 @@ stand-apart {wi = wi} {wj = wj} r (both-in-this a b) =
 abbrev pub ApartAt : ℕ → ℕ → ℕ → Circle → Type 0
 ApartAt k i j c = Apart k (c .flow i .weight) (c .flow j .weight) (onAccount c i) (onAccount c j) (toCome c i) (toCome c j)
 
-pub apart-where-led : {k i j : ℕ} {c : Circle} → c .mark ≤ k → Placed k i c → Placed k j c → (i ≡ j → ⊥) → leads j i (order c) ≡ true → ApartAt k i j c
+pub apart-where-led : {k i j : ℕ} {c : Circle} → c .mark ≤ k → InCircle k i c → InCircle k j c → (i ≡ j → ⊥) → leads j i (order c) ≡ true → ApartAt k i j c
 apart-where-led small pi pj differ first = stand-apart (omega arith) (stand pi pj differ first)

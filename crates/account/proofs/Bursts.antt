@@ -18,7 +18,7 @@ use Rattle.model.specs.declared.Serving.{Serving}
 use Rattle.model.specs.declared.Serving.the-variants.{NoTurn, Turn}
 use Rattle.model.proofs.Chains.{OrderHistory, SendsNothing, Still, still-after, chain-append, over-append, single-calls-make-departures}
 use Rattle.account.specs.Stretch.{leftOver, Waiting, WaitingAfterEvery, sentIn, turnsIn}
-use Rattle.account.proofs.Runs.{waited-before-all}
+use Rattle.account.proofs.CallMoves.{waited-before-all}
 
 -- ---- a burst, one departure at a time
 

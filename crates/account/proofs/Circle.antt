@@ -131,7 +131,7 @@ pub data Move : Circle → Circle → List Sent → List Sent → Type 0 where
 abbrev pub Backwards : ((ℕ → Flow) → Type 0) → Type 0
 Backwards Wanted = (flow flow′ : ℕ → Flow) → ((f : ℕ) → Waits (flow′ f) → Waits (flow f)) → Wanted flow′ → Wanted flow
 
--- A run of moves, after each of which the flows are as wanted.
+-- Moves one after the other, after each of which the flows are as wanted.
 pub data Moves (Wanted : (ℕ → Flow) → Type 0) : Circle → Circle → List Sent → List Sent → Type 0 where
   stands : {c : Circle} → Moves Wanted c c [] []
   moves : {c c′ : Circle} {l e : List Sent} → Move c c′ l e → Wanted (c′ .flow) → Moves Wanted c c′ l e

@@ -1,4 +1,4 @@
--- A departure call is a run of moves: a round may start, a turn may open, and a packet leaves.
+-- A departure call is a number of moves: a round may start, a turn may open, and a packet leaves.
 use Prim.Native.Nat.{ℕ, zero, suc, _+_, _*_, _-_, _≤_, _<_, max}
 use mathlib.Core.Path.{_≡_, refl, sym, ap, _∙_}
 use mathlib.Core.List.{List, [], _∷_, _++_}
@@ -60,7 +60,7 @@ counted-waits : {flow : ℕ → Flow} {out line : List ℕ} {mark running n g k 
     → flow g .queue ≡ [] → ⊥
 counted-waits {flow} {g = g} L c = standing-waits (flow g) (omega (arith, L .stands-once g, c))
 
--- From the circle c, what serving flow g gives is a run of moves, with what leaves and which turn is completed.
+-- From the circle c, what serving flow g gives is a number of moves, with what leaves and which turn is completed.
 abbrev Serves : ((ℕ → Flow) → Type 0) → Scheduler → ℕ → Circle → Visit → Type 0
 Serves Wanted s g c v =
     Wanted (flowAt (put s g (v .flow) (v .round)))
@@ -73,10 +73,10 @@ module _ (Wanted : (ℕ → Flow) → Type 0) (s : Scheduler) (R : Rules s) (r :
   abbrev turning : Circle
   turning = circle flow (drop (r .visits - 1) (r .line)) (take (r .visits - 1) (r .line)) (Turn g allowed sent) (r .mark) (r .running)
 
-  serving-runs : (q : List ℕ) → flow g ≡ flowMadeOf w σ k q → Sizes q → (q ≡ [] → ⊥) → Serves Wanted s g turning (served r (flowMadeOf w σ k q) g allowed sent)
+  serving-moves : (q : List ℕ) → flow g ≡ flowMadeOf w σ k q → Sizes q → (q ≡ [] → ⊥) → Serves Wanted s g turning (served r (flowMadeOf w σ k q) g allowed sent)
   unfolding served settled firstLeft turnKept turnClosed excessKept put turnThen
-  serving-runs [] here sizes waits = absurd (waits refl)
-  serving-runs (p ∷ []) here sizes waits =
+  serving-moves [] here sizes waits = absurd (waits refl)
+  serving-moves (p ∷ []) here sizes waits =
       moves
       (flow-runs-empty
       (renewed s R reach (flowMadeOf w 0 (nextSlot k) []) r 0 flow only (sym (ap (λ (x : Flow). x .weight) here)) refl)
@@ -84,7 +84,7 @@ module _ (Wanted : (ℕ → Flow) → Type 0) (s : Scheduler) (R : Rules s) (r :
       low
       (raised-within (r .running) w (r .mark) allowed sent (sent + p) low most)
       (λ v. absurd (omega (arith, v, ap (λ (x : Flow). length (x .queue)) (here-now s R reach (flowMadeOf w 0 (nextSlot k) []) r)))))
-  serving-runs (p ∷ (p′ ∷ q)) here sizes waits = go (leb allowed (sent + p)) refl
+  serving-moves (p ∷ (p′ ∷ q)) here sizes waits = go (leb allowed (sent + p)) refl
     where
       x : Flow
       x = flowMadeOf w σ k (p ∷ (p′ ∷ q))
@@ -122,16 +122,16 @@ openedFor s g line visits mark running = roundMadeOf line (suc visits) mark runn
 
 -- Steps 2 to 6, for the head of the line once a visit is left.
 module _ (Wanted : (ℕ → Flow) → Type 0) (back : Backwards Wanted) (s : Scheduler) (R : Rules s) (want : Wanted (flowAt s)) where
-  turn-runs : (g : ℕ) (line : List ℕ) (visits mark running : ℕ) → LineRules (flowAt s) [] (g ∷ line) mark running (suc visits)
+  turn-moves : (g : ℕ) (line : List ℕ) (visits mark running : ℕ) → LineRules (flowAt s) [] (g ∷ line) mark running (suc visits)
       → Serves Wanted s g (circle (flowAt s) (drop visits line) (g ∷ take visits line) NoTurn mark running)
       (served (openedFor s g line visits mark running) (surplusCleared (flowAt s g)) g (allowanceOf s g mark) 0)
   unfolding surplusCleared put
-  turn-runs g line visits mark running L final =
+  turn-moves g line visits mark running L final =
       follows
       (moves (turn-opens (renewed s R reach (surplusCleared x) r 0 (flowAt s) (λ f d. refl) refl refl) covered)
       (back (flowAt s′) (flowAt s) still want))
       (rw counted at
-      (serving-runs Wanted s R r g (allowanceOf s g mark) 0 (x .weight) 0 (x .slot) (flowAt s′) (at-others s g (surplusCleared x) r)
+      (serving-moves Wanted s R r g (allowanceOf s g mark) 0 (x .weight) 0 (x .slot) (flowAt s′) (at-others s g (surplusCleared x) r)
       reach
       (omega (arith, L .visits-in-line))
       (omega (arith, owed, weighs x (R .flow-rules g) waits))
@@ -180,7 +180,7 @@ module _ (Wanted : (ℕ → Flow) → Type 0) (back : Backwards Wanted) where
   departs : (flows : List Flow) (line : List ℕ) (visits mark running : ℕ) (turn : Serving) → Departs (schedulerMadeOf flows line visits mark running turn)
   unfolding departed visit visitBy roundStarted turnOpened RoundRules turnsOf turnThen put
   departs flows line visits mark running (Turn g allowed sent) R final =
-      serving-runs Wanted s R (s .round) g allowed sent (x .weight) (x .surplus) (x .slot) (flowAt s) (λ f d. refl)
+      serving-moves Wanted s R (s .round) g allowed sent (x .weight) (x .surplus) (x .slot) (flowAt s) (λ f d. refl)
       (waiting-in-reach s g (R .all-flows) waits)
       (L .visits-in-line)
       (T .more-may-be-sent)
@@ -213,10 +213,10 @@ module _ (Wanted : (ℕ → Flow) → Type 0) (back : Backwards Wanted) where
       follows
       (moves (round-starts (R .round-rules .stands-once)) want)
       (rw (drop-length line, take-length line) at
-      (turn-runs Wanted back s R want g line (length line) running 0 (rules-when-a-round-starts (R .round-rules)) final))
+      (turn-moves Wanted back s R want g line (length line) running 0 (rules-when-a-round-starts (R .round-rules)) final))
   departs flows (g ∷ line) (suc visits) mark running NoTurn R final =
       let s : Scheduler = schedulerMadeOf flows (g ∷ line) (suc visits) mark running NoTurn in
-      turn-runs Wanted back s R (back (flowAt s) (flowAt (departed s .state)) (waited-before s) final) g line visits mark running (R .round-rules) final
+      turn-moves Wanted back s R (back (flowAt s) (flowAt (departed s .state)) (waited-before s) final) g line visits mark running (R .round-rules) final
 
-  pub departure-runs : (s : Scheduler) → Departs s
-  departure-runs s = departs (s .flows) (s .round .line) (s .round .visits) (s .round .mark) (s .round .running) (s .round .turn)
+  pub departure-moves : (s : Scheduler) → Departs s
+  departure-moves s = departs (s .flows) (s .round .line) (s .round .visits) (s .round .mark) (s .round .running) (s .round .turn)

@@ -3,9 +3,9 @@
 -- The argument speaks of a state as a circle of flows and of the few moves that calls are made of (Circle). Account: each move balances the account
 -- of a flow that waits. Rounds: each round gives two flows that wait one turn each. Order: who of them stands first in the circle never changes.
 -- Within: marks and surpluses stay smaller than the largest packet sent. Bound: so, in any one state, what two flows have on account and still to
--- come lies close. Pair: so their bytes do, over any run of moves.
+-- come lies close. Pair: so their bytes do, over any moves.
 --
--- Departure, Runs and Stretches show that every call, and every stretch of calls, is a run of such moves. The rules of one state are all that they
+-- Departure, CallMoves and Stretches show that every call, and every stretch of calls, is a number of such moves. The rules of one state are all that they
 -- ask of the state that a stretch begins with.
 pub mod Circle
 pub mod Sums
@@ -16,7 +16,7 @@ pub mod Within
 pub mod Bound
 pub mod Pair
 pub mod Departure
-pub mod Runs
+pub mod CallMoves
 pub mod Stretches
 pub mod Theorems
 pub mod Bursts

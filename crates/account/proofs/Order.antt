@@ -69,12 +69,12 @@ module _ (i j : ℕ) where
   move-keeps-order (packet-joins new) v w = refl
   move-keeps-order (flow-opens only z out) v w = refl
 
-  pub run-keeps-both : {c c′ : Circle} {l e : List Sent} → Moves Both c c′ l e → Both (c .flow) → Both (c′ .flow)
-  run-keeps-both stands v = v
-  run-keeps-both (moves m w) v = w
-  run-keeps-both (follows r t) v = run-keeps-both t (run-keeps-both r v)
+  pub moves-keep-both : {c c′ : Circle} {l e : List Sent} → Moves Both c c′ l e → Both (c .flow) → Both (c′ .flow)
+  moves-keep-both stands v = v
+  moves-keep-both (moves m w) v = w
+  moves-keep-both (follows r t) v = moves-keep-both t (moves-keep-both r v)
 
   pub order-never-changes : {c c′ : Circle} {l e : List Sent} → Moves Both c c′ l e → Both (c .flow) → leads j i (order c′) ≡ leads j i (order c)
   order-never-changes stands v = refl
   order-never-changes (moves m w) v = move-keeps-order m v w
-  order-never-changes (follows r t) v = order-never-changes t (run-keeps-both r v) ∙ order-never-changes r v
+  order-never-changes (follows r t) v = order-never-changes t (moves-keep-both r v) ∙ order-never-changes r v

@@ -1,4 +1,4 @@
--- Two flows that wait throughout a run: the exact bound. By the account and the rounds, each one's bytes times the other's weight differ by as much as
+-- Two flows that wait throughout some moves: the exact bound. By the account and the rounds, each one's bytes times the other's weight differ by as much as
 -- the difference of their leads has moved; by the order and the bound of one state, that is no more than its range.
 use Prim.Native.Nat.{ℕ, suc, _+_, _*_, _≤_}
 use mathlib.Core.Path.{_≡_, refl, sym, ap, _∙_, subst₂}
@@ -11,16 +11,16 @@ use Rattle.model.proofs.Counts.{count-append}
 use Rattle.account.specs.Stretch.{onePlusMark}
 use Rattle.account.proofs.Sums.{sumOfSent, bytes, DifferByAtMost}
 use Rattle.account.proofs.Circle.{Circle, Moves, onAccount, toCome, thisRound}
-use Rattle.account.proofs.Account.{Balanced, run-keeps-weight, run-balances}
+use Rattle.account.proofs.Account.{Balanced, moves-keep-weight, moves-balance}
 use Rattle.account.proofs.Order.{leads, order, one-leads, Both, order-never-changes}
-use Rattle.account.proofs.Rounds.{Even, run-is-even}
-use Rattle.account.proofs.Bound.{Placed, Apart, ApartAt, apart-where-led}
+use Rattle.account.proofs.Rounds.{Even, moves-are-even}
+use Rattle.account.proofs.Bound.{InCircle, Apart, ApartAt, apart-where-led}
 
--- A flow that is placed stands.
-stands-in-order : {k f : ℕ} {c : Circle} → Placed k f c → 1 ≤ count f (order c)
+-- A flow in the circle stands.
+stands-in-order : {k f : ℕ} {c : Circle} → InCircle k f c → 1 ≤ count f (order c)
 stands-in-order {f = f} {c = c} p = omega (arith, p .stands-once, count-append f (c .next) (thisRound c))
 
--- What a run says of two flows: their weights stay, their accounts balance, and the rounds serve both.
+-- What moves say of two flows: their weights stay, their accounts balance, and the rounds serve both.
 record Shared (i j : ℕ) (c c′ : Circle) (l e : List Sent) : Type 0 where
   weight-of-i : c′ .flow i .weight ≡ c .flow i .weight
   weight-of-j : c′ .flow j .weight ≡ c .flow j .weight
@@ -31,11 +31,11 @@ record Shared (i j : ℕ) (c c′ : Circle) (l e : List Sent) : Type 0 where
 shared : {i j : ℕ} {c c′ : Circle} {l e : List Sent} → Moves (Both i j) c c′ l e → Both i j (c .flow) → Shared i j c c′ l e
 shared {i} {j} r both =
     record {
-      weight-of-i = run-keeps-weight i (λ flow w. w .0) r;
-      weight-of-j = run-keeps-weight j (λ flow w. w .1) r;
-      account-of-i = run-balances i (λ flow w. w .0) r;
-      account-of-j = run-balances j (λ flow w. w .1) r;
-      even = run-is-even i j r both;
+      weight-of-i = moves-keep-weight i (λ flow w. w .0) r;
+      weight-of-j = moves-keep-weight j (λ flow w. w .1) r;
+      account-of-i = moves-balance i (λ flow w. w .0) r;
+      account-of-j = moves-balance j (λ flow w. w .1) r;
+      even = moves-are-even i j r both;
     }
 
 -- The same of j and i.
@@ -61,7 +61,7 @@ bytes-differ {k} {i} {j} {c} {c′} {l} {e} s before after =
     (subst₂ (λ (v w : ℕ). Apart k v w (onAccount c′ i) (onAccount c′ j) (toCome c′ i) (toCome c′ j)) (s .weight-of-i) (s .weight-of-j) after)
 
 module _ {k i j : ℕ} {c c′ : Circle} {l e : List Sent} (differ : i ≡ j → ⊥) (r : Moves (Both i j) c c′ l e) (both : Both i j (c .flow))
-    (small : c .mark ≤ k) (small′ : c′ .mark ≤ k) (pi : Placed k i c) (pj : Placed k j c) (pi′ : Placed k i c′) (pj′ : Placed k j c′) where
+    (small : c .mark ≤ k) (small′ : c′ .mark ≤ k) (pi : InCircle k i c) (pj : InCircle k j c) (pi′ : InCircle k i c′) (pj′ : InCircle k j c′) where
   abbrev BytesDiffer : Type 0
   BytesDiffer =
       DifferByAtMost (c .flow j .weight * sumOfSent i bytes l) (c .flow i .weight * sumOfSent j bytes l)

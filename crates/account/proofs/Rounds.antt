@@ -1,5 +1,5 @@
 -- In each round every flow that stands has one turn. So what completed turns allow two flows that wait, for each unit of their weights, differs only by
--- what the round in which the run begins, and the one in which it ends, have still to allow the one and not the other.
+-- what the round in which the moves begin, and the one in which they end, have still to allow the one and not the other.
 use Prim.Native.Nat.{ℕ, _+_, _*_}
 use mathlib.Core.Path.{_≡_, ap, _∙_}
 use mathlib.Core.List.{List}
@@ -13,7 +13,7 @@ use Rattle.account.specs.Stretch.{onePlusMark, sumOf}
 use Rattle.account.proofs.Sums.{sumOfSent}
 use Rattle.account.proofs.Circle.{Circle, Move, round-starts, turn-opens, turn-stays-open, turn-ends, flow-runs-empty, flow-joins, packet-joins, flow-opens, Moves, stands, moves, follows, toCome}
 use Rattle.account.proofs.Sums.{sum-append}
-use Rattle.account.proofs.Order.{Both, run-keeps-both}
+use Rattle.account.proofs.Order.{Both, moves-keep-both}
 
 -- What a completed turn allowed is no longer to come.
 turn-has-come : (f g mark : ℕ) (rest : List ℕ)
@@ -44,9 +44,9 @@ module _ (i j : ℕ) where
   move-is-even (packet-joins new) w = omega arith
   move-is-even (flow-opens only z out) w = omega arith
 
-  pub run-is-even : {c c′ : Circle} {l e : List Sent} → Moves (Both i j) c c′ l e → Both i j (c .flow) → Even c c′ e
+  pub moves-are-even : {c c′ : Circle} {l e : List Sent} → Moves (Both i j) c c′ l e → Both i j (c .flow) → Even c c′ e
   unfolding sumOf
-  run-is-even stands w = omega arith
-  run-is-even (moves m v) w = move-is-even m w
-  run-is-even (follows {e = e} {e′ = e′} r t) w =
-      omega (arith, run-is-even r w, run-is-even t (run-keeps-both i j r w), sum-append i onePlusMark e e′, sum-append j onePlusMark e e′)
+  moves-are-even stands w = omega arith
+  moves-are-even (moves m v) w = move-is-even m w
+  moves-are-even (follows {e = e} {e′ = e′} r t) w =
+      omega (arith, moves-are-even r w, moves-are-even t (moves-keep-both i j r w), sum-append i onePlusMark e e′, sum-append j onePlusMark e e′)

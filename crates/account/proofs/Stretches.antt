@@ -1,4 +1,4 @@
--- A stretch of calls in which flows wait is a run of moves; and what holds of every history that calls give.
+-- A stretch of calls in which flows wait is a number of moves; and what holds of every history that calls give.
 use Prim.Native.Nat.{ℕ, _-_}
 use mathlib.Core.Path.{_≡_, refl, sym, ap, _∙_, subst}
 use mathlib.Core.List.{List, [], _∷_, _++_, append-nil, append-assoc}
@@ -15,9 +15,9 @@ use Rattle.model.proofs.Keeps.{every-call-keeps, new-closed}
 use Rattle.account.specs.Stretch.{leftOver, WaitingAfterEvery, sentIn, turnsIn, largest}
 use Rattle.account.proofs.Sums.{largestSent}
 use Rattle.account.proofs.Circle.{circleOf, Moves, stands, follows, Waits, Backwards}
-use Rattle.account.proofs.Runs.{call-runs}
+use Rattle.account.proofs.CallMoves.{call-moves}
 use Rattle.account.proofs.Order.{Both}
-use Rattle.account.proofs.Within.{Within, within-more, run-stays-within}
+use Rattle.account.proofs.Within.{Within, within-more, moves-stay-within}
 use Rattle.account.proofs.Sums.{largest-append}
 
 -- After a reset nobody waits, so a call after which a flow waits is none.
@@ -53,16 +53,16 @@ left-behind h c d = ap (λ (b : Bool). cond b [] (h .left) ++ does (h .state) c 
 both-back : (i j : ℕ) → Backwards (Both i j)
 both-back i j flow flow′ back w = (back i (w .0), back j (w .1))
 
--- A stretch in which two flows wait after every call is a run of moves after each of which both wait.
-pub stretch-runs : (i j : ℕ) (h : OrderHistory) (calls : List Call) → Rules (h .state)
+-- A stretch in which two flows wait after every call is a number of moves after each of which both wait.
+pub stretch-moves : (i j : ℕ) (h : OrderHistory) (calls : List Call) → Rules (h .state)
     → WaitingAfterEvery orderCalls i (h .state) calls → WaitingAfterEvery orderCalls j (h .state) calls
     → Moves (Both i j) (circleOf (h .state)) (circleOf (chain orderCalls h calls .state)) (sentIn orderCalls (h .state) calls) (turnsIn orderCalls (h .state) calls)
 unfolding chain next moved over leftOver WaitingAfterEvery
-stretch-runs i j h [] R v w = stands
-stretch-runs i j h (c ∷ calls) R v w =
+stretch-moves i j h [] R v w = stands
+stretch-moves i j h (c ∷ calls) R v w =
     follows
-    (call-runs (Both i j) (both-back i j) (h .state) c R (no-reset (h .state) i c (v .0)) (v .0, w .0))
-    (stretch-runs i j (next orderCalls h c) calls (every-call-keeps (h .state) c R) (v .1) (w .1))
+    (call-moves (Both i j) (both-back i j) (h .state) c R (no-reset (h .state) i c (v .0)) (v .0, w .0))
+    (stretch-moves i j (next orderCalls h c) calls (every-call-keeps (h .state) c R) (v .1) (w .1))
 
 -- No call of a stretch is a reset, if a flow waits after every one: so the theorems do not ask for it. What has left since the last reset is then, at its
 -- end, what had left before it and what leaves in it.
@@ -87,8 +87,8 @@ new-is-small = record { mark-within = omega arith; running-within = omega arith;
 stays-small : (h : OrderHistory) (c : Call) → Rules (h .state) → (c ≡ resetting → ⊥) → Small h
     → Within (largestSent (h .left ++ does (h .state) c .seen .sends) - 1) (circleOf (does (h .state) c .state))
 stays-small h c R d w =
-    run-stays-within (largestSent (h .left ++ does (h .state) c .seen .sends) - 1)
-    (call-runs (λ flow. Unit {0}) (λ flow flow′ back u. u) (h .state) c R d tt)
+    moves-stay-within (largestSent (h .left ++ does (h .state) c .seen .sends) - 1)
+    (call-moves (λ flow. Unit {0}) (λ flow flow′ back u. u) (h .state) c R d tt)
     (omega (arith, largest-append (h .left) (does (h .state) c .seen .sends)))
     (within-more (omega (arith, largest-append (h .left) (does (h .state) c .seen .sends))) w)
 

@@ -19,12 +19,12 @@ use Rattle.account.specs.Stretch.{Stretch, begun, ended, Waiting, Waitin
 use Rattle.account.proofs.Sums.{bytes, sumOfSent, largestSent, DifferByAtMost, DifferByLessThan}
 use Rattle.account.proofs.Circle.{circleOf, onAccount, onAccountIn, Moves}
 use Rattle.account.proofs.Sums.{largest-append, no-bytes}
-use Rattle.account.proofs.Account.{run-balances}
-use Rattle.account.proofs.Order.{Both, run-keeps-both}
-use Rattle.account.proofs.Within.{Within, within-more, run-stays-within, run-sends-bytes}
-use Rattle.account.proofs.Bound.{placed}
+use Rattle.account.proofs.Account.{moves-balance}
+use Rattle.account.proofs.Order.{Both, moves-keep-both}
+use Rattle.account.proofs.Within.{Within, within-more, moves-stay-within, moves-send-bytes}
+use Rattle.account.proofs.Bound.{in-circle}
 use Rattle.account.proofs.Pair.{pair-bounded}
-use Rattle.account.proofs.Stretches.{stretch-runs, left-grows, Small, small-reached, new-is-small}
+use Rattle.account.proofs.Stretches.{stretch-moves, left-grows, Small, small-reached, new-is-small}
 
 -- ---- from any state that keeps the rules, however it came about
 
@@ -33,7 +33,7 @@ module _ (h : OrderHistory) (calls : List Call) (R : Rules (h .state)) where
   account-from : (f : ℕ) → WaitingAfterEvery orderCalls f (h .state) calls
       → sumOfSent f bytes (sentIn orderCalls (h .state) calls) + onAccount (circleOf (h .state)) f
       ≡ onAccount (circleOf (chain orderCalls h calls .state)) f + flowAt (h .state) f .weight * sumOfSent f onePlusMark (turnsIn orderCalls (h .state) calls)
-  account-from f waits = run-balances f (λ flow w. w .0) (stretch-runs f f h calls R waits waits)
+  account-from f waits = moves-balance f (λ flow w. w .0) (stretch-moves f f h calls R waits waits)
 
   -- The exact bound, where marks and surpluses are at most k and packets in the stretch at most one more.
   bound-from : (k i j : ℕ) → (i ≡ j → ⊥) → Within k (circleOf (h .state)) → largestSent (sentIn orderCalls (h .state) calls) ≤ suc k
@@ -41,26 +41,26 @@ module _ (h : OrderHistory) (calls : List Call) (R : Rules (h .state)) where
       → DifferByAtMost (flowAt (h .state) j .weight * sumOfSent i bytes (sentIn orderCalls (h .state) calls)) (flowAt (h .state) i .weight * sumOfSent j bytes (sentIn orderCalls (h .state) calls))
       (suc k * (flowAt (h .state) i .weight * flowAt (h .state) j .weight) + k * (flowAt (h .state) i .weight + flowAt (h .state) j .weight))
   bound-from k i j differ within sizes wi wj =
-      pair-bounded differ run both (within .mark-within) (within-then .mark-within)
-      (placed k (h .state) R within i (both .0))
-      (placed k (h .state) R within j (both .1))
-      (placed k (chain orderCalls h calls .state) rules-then within-then i (both-then .0))
-      (placed k (chain orderCalls h calls .state) rules-then within-then j (both-then .1))
+      pair-bounded differ made both (within .mark-within) (within-then .mark-within)
+      (in-circle k (h .state) R within i (both .0))
+      (in-circle k (h .state) R within j (both .1))
+      (in-circle k (chain orderCalls h calls .state) rules-then within-then i (both-then .0))
+      (in-circle k (chain orderCalls h calls .state) rules-then within-then j (both-then .1))
     where
-      run : Moves (Both i j) (circleOf (h .state)) (circleOf (chain orderCalls h calls .state)) (sentIn orderCalls (h .state) calls) (turnsIn orderCalls (h .state) calls)
-      run = stretch-runs i j h calls R (wi .1) (wj .1)
+      made : Moves (Both i j) (circleOf (h .state)) (circleOf (chain orderCalls h calls .state)) (sentIn orderCalls (h .state) calls) (turnsIn orderCalls (h .state) calls)
+      made = stretch-moves i j h calls R (wi .1) (wj .1)
 
       both : Both i j (flowAt (h .state))
       both = (wi .0, wj .0)
 
       both-then : Both i j (flowAt (chain orderCalls h calls .state))
-      both-then = run-keeps-both i j run both
+      both-then = moves-keep-both i j made both
 
       rules-then : Rules (chain orderCalls h calls .state)
       rules-then = chain-keeps h calls R
 
       within-then : Within k (circleOf (chain orderCalls h calls .state))
-      within-then = run-stays-within k run sizes within
+      within-then = moves-stay-within k made sizes within
 
 -- ---- from any state that calls give
 
@@ -152,4 +152,4 @@ pair-bound x i j wi wj something =
     (exact-bound x i j wi wj)
   where
     sent : 1 ≤ largestSinceReset orderCalls x
-    sent = omega (arith, largest-in-parts x i wi, run-sends-bytes (stretch-runs i j (begun orderCalls x) (x .calls) (rules-begun x) (wi .1) (wj .1)) something)
+    sent = omega (arith, largest-in-parts x i wi, moves-send-bytes (stretch-moves i j (begun orderCalls x) (x .calls) (rules-begun x) (wi .1) (wj .1)) something)

@@ -64,17 +64,17 @@ move-sends-bytes (packet-joins new) h = absurd (omega arith)
 move-sends-bytes (flow-opens only z out) h = absurd (omega arith)
 
 module _ {Wanted : (ℕ → Flow) → Type 0} where
-  pub run-stays-within : (k : ℕ) {c c′ : Circle} {l e : List Sent} → Moves Wanted c c′ l e → largestSent l ≤ suc k → Within k c → Within k c′
-  run-stays-within k stands m w = w
-  run-stays-within k (moves v want) m w = move-stays-within k v m w
-  run-stays-within k (follows {l = l} {l′ = l′} r t) m w =
-      run-stays-within k t (omega (arith, largest-append l l′)) (run-stays-within k r (omega (arith, largest-append l l′)) w)
+  pub moves-stay-within : (k : ℕ) {c c′ : Circle} {l e : List Sent} → Moves Wanted c c′ l e → largestSent l ≤ suc k → Within k c → Within k c′
+  moves-stay-within k stands m w = w
+  moves-stay-within k (moves v want) m w = move-stays-within k v m w
+  moves-stay-within k (follows {l = l} {l′ = l′} r t) m w =
+      moves-stay-within k t (omega (arith, largest-append l l′)) (moves-stay-within k r (omega (arith, largest-append l l′)) w)
 
-  pub run-sends-bytes : {c c′ : Circle} {l e : List Sent} → Moves Wanted c c′ l e → 1 ≤ length l → 1 ≤ largestSent l
-  run-sends-bytes stands h = absurd (omega arith)
-  run-sends-bytes (moves m want) h = move-sends-bytes m h
-  run-sends-bytes (follows {l = l} {l′ = l′} r t) h =
+  pub moves-send-bytes : {c c′ : Circle} {l e : List Sent} → Moves Wanted c c′ l e → 1 ≤ length l → 1 ≤ largestSent l
+  moves-send-bytes stands h = absurd (omega arith)
+  moves-send-bytes (moves m want) h = move-sends-bytes m h
+  moves-send-bytes (follows {l = l} {l′ = l′} r t) h =
       elim (decLe 1 (length l)) [
-        | yes a ↦ omega (arith, largest-append l l′, run-sends-bytes r a)
-        | no a ↦ omega (arith, largest-append l l′, run-sends-bytes t (omega (arith, length-append l l′)))
+        | yes a ↦ omega (arith, largest-append l l′, moves-send-bytes r a)
+        | no a ↦ omega (arith, largest-append l l′, moves-send-bytes t (omega (arith, length-append l l′)))
       ]

@@ -84,10 +84,10 @@ impl State {
         ensures { λ r. ⌜ OpenGives self f weight r ⌝ }
     {
         let at = ask::index(f);
-        let asked = ask::opened(self.flows[at], f, weight);
-        let flow = asked.flow;
+        let step = ask::opened(self.flows[at], f, weight);
+        let flow = step.flow;
         self.flows[at] = flow;
-        let answer = asked.answer;
+        let answer = step.answer;
         Answered {
             state: self,
             answer: answer,
@@ -101,13 +101,13 @@ impl State {
         let at = ask::index(f);
         let round = self.round;
         let flow = self.flows[at];
-        let told = ask::offered(&mut self.line, round, flow, f, size);
-        let queue = told.flow;
+        let step = ask::offered(&mut self.line, round, flow, f, size);
+        let queue = step.flow;
         self.flows[at] = queue;
-        let length = told.length;
+        let length = step.length;
         self.round.length = length;
-        let answer = told.answer;
-        let into = told.into;
+        let answer = step.answer;
+        let into = step.into;
         Placed {
             state: self,
             answer: answer,
@@ -122,13 +122,13 @@ impl State {
         let round = self.round;
         let at = turn::whose(self.line[0], round);
         let flow = self.flows[at];
-        let gone = turn::visit(&mut self.line, round, flow);
-        let rest = gone.flow;
+        let step = turn::visit(&mut self.line, round, flow);
+        let rest = step.flow;
         self.flows[at] = rest;
-        let after = gone.round;
+        let after = step.round;
         self.round = after;
         let from = flow::first_place(at, flow);
-        let reply = gone.reply;
+        let reply = step.reply;
         Departed {
             state: self,
             reply: reply,
@@ -153,12 +153,12 @@ impl State {
         while made < n {
             let at = turn::whose(line[0], round);
             let flow = self.flows[at];
-            let visited = turn::visit(&mut line, round, flow);
-            let rest = visited.flow;
+            let step = turn::visit(&mut line, round, flow);
+            let rest = step.flow;
             self.flows[at] = rest;
-            let after = visited.round;
+            let after = step.round;
             round = after;
-            let reply = visited.reply;
+            let reply = step.reply;
             let Reply::Departure(sent) = reply else {
                 self.line = line;
                 self.round = round;

@@ -53,9 +53,9 @@ impl Site {
         ensures { λ r. ⌜ OpenGives self f weight r ⌝ }
     {
         let order = self.order;
-        let asked = order.open(f, weight);
-        let state = asked.state;
-        let answer = asked.answer;
+        let step = order.open(f, weight);
+        let state = step.state;
+        let answer = step.answer;
         SiteAnswered {
             site: Site { order: state },
             answer: answer,
@@ -74,11 +74,11 @@ impl Site {
             };
         }
         let order = self.order;
-        let asked = order.offer(f, packet.len());
-        let state = asked.state;
-        let answer = asked.answer;
+        let step = order.offer(f, packet.len());
+        let state = step.state;
+        let answer = step.answer;
         // Where the packet is refused the size is 0, and nothing is written: a branch on the answer here would cost a copy of the site.
-        let into = asked.into;
+        let into = step.into;
         slots::write(store, into.flow, into.slot, &packet[..into.size]);
         SiteAnswered {
             site: Site { order: state },
@@ -104,11 +104,11 @@ impl Site {
             };
         }
         let order = self.order;
-        let sent = order.depart();
-        let state = sent.state;
-        let reply = sent.reply;
+        let step = order.depart();
+        let state = step.state;
+        let reply = step.reply;
         // Where nothing departs the size is 0, and nothing is copied: a branch on the reply here would cost a copy of the site.
-        let from = sent.from;
+        let from = step.from;
         slots::read(store, from.flow, from.slot, from.size, out);
         SiteDeparted {
             site: Site { order: state },
