@@ -1,8 +1,7 @@
 -- One argument for both layers: what a layer must bring for the three demands to hold of it.
 use Prim.Native.Nat.{ℕ, _+_, _*_, _-_, _≤_, _<_}
 use mathlib.Core.Path.{_≡_, refl, sym, ap, ap₂, _∙_, subst}
-use mathlib.Core.List.{List, [], _++_}
-use mathlib.Core.Bool.{true}
+use mathlib.Core.List.{List, _++_}
 use lib.ListN.{length}
 use Rattle.model.specs.Chain.{Seen, Kind, HistoryOf, begin, chain, seenOver}
 use Rattle.model.specs.Runs.{Run}
@@ -16,8 +15,8 @@ module _ (L : Layer) where
   K = L .kind
 
   -- The definitions' call leaves state and lent bytes.
-  abbrev Leaves : K .State → K .Call → Type 0
-  Leaves m c = (K .does m c .state ≡ m) × (K .does m c .seen .lent ≡ L .lentTo c)
+  abbrev pub Leaves : K .State → K .Call → Type 0
+  Leaves m c = (K .does m c .state ≡ m) × (K .does m c .seen .back ≡ K .does m c .seen .lent)
 
   pub record Grounds : Type 1 where
     -- how the code's states stand for the definitions', and that its calls follow theirs
@@ -28,7 +27,6 @@ module _ (L : Layer) where
     pub premise : (s : L .State) (m : K .State) → Stands s m → L .Premise s
     -- what is proved of the definitions' calls
     pub refused-leaves : (m : K .State) (c : K .Call) → 1 ≤ K .does m c .seen .says .refusal → Leaves m c
-    pub unsent-leaves : (m : K .State) (c : K .Call) → L .asksForDepartures c ≡ true → K .does m c .seen .sends ≡ [] → Leaves m c
     pub balanced : (s : L .State) (m : K .State) → L .New s m → (calls : List (K .Call)) (f : ℕ)
         → L .accepted f (chain K (begin m) calls .accepted) ≡ L .left f (chain K (begin m) calls .left) ++ L .waiting f (chain K (begin m) calls .state)
     pub account : (x : Stretch K) (f : ℕ) → ConsecutiveTurns K x f → bytesSent K x f + surplusBefore K x f ≡ surplusAfter K x f + weightOf K x f * onePlusMarks K x f
@@ -46,27 +44,26 @@ module _ (L : Layer) where
         run-beside K (L .Does) (G .Stands) (G .follows) (R .run) (begin first)
         (record { stands = G .begins (R .code) first (R .new); accepted-same = refl; left-same = refl })
 
+    -- What is seen of the next call is what the definitions' call shows; and where that leaves all as it was, so does the code's.
+    module _ {first : K .State} {calls : List (K .Call)} {h : CodeHistory L} {seen : List (SeenOf L)} (R : Reached L first calls h seen) {c : K .Call} {s : L .State} {e : SeenOf L}
+        (d : L .Does (h .state) c s e) where
+      pub seen-same : e ≡ K .does (chain K (begin first) calls .state) c .seen
+      seen-same = G .follows (h .state) (chain K (begin first) calls .state) c s e (beside R .stands) d .seen-same
+
+      pub unchanged : Leaves (chain K (begin first) calls .state) c → (s ≡ h .state) × (e .back ≡ e .lent)
+      unchanged stays = (
+        left-as-it-was K (L .Does) (G .Stands) (G .follows) (G .same-form) (beside R .stands) d (stays .0),
+        ap (λ (k : SeenOf L). k .back) seen-same ∙ stays .1 ∙ sym (ap (λ (k : SeenOf L). k .lent) seen-same),
+      )
+
     pub demand1 : Demand1 L
     demand1 =
         record {
           premise-holds = λ {first} {calls} {h} R. G .premise (h .state) (chain K (begin first) calls .state) (beside R .stands);
           refusal-changes-nothing = λ {first} {calls} {h} {seen} {c} {s} {e} R d refused.
-              unchanged R d (G .refused-leaves (chain K (begin first) calls .state) c (subst (λ (k : SeenOf L). 1 ≤ k .says .refusal) (same R d) refused));
-          nothing-sent-nothing-changed = λ {first} {calls} {h} {seen} {c} {s} {e} R d asks none.
-              unchanged R d (G .unsent-leaves (chain K (begin first) calls .state) c asks (sym (ap (λ (k : SeenOf L). k .sends) (same R d)) ∙ none));
+              unchanged R d (G .refused-leaves (chain K (begin first) calls .state) c (subst (λ (k : SeenOf L). 1 ≤ k .says .refusal) (seen-same R d) refused));
           no-second-outcome = λ R d e. one-outcome K (L .Does) (G .Stands) (G .follows) (G .same-form) (beside R .stands) d e;
         }
-      where
-        same : {first : K .State} {calls : List (K .Call)} {h : CodeHistory L} {seen : List (SeenOf L)} {c : K .Call} {s : L .State} {e : SeenOf L}
-            → Reached L first calls h seen → L .Does (h .state) c s e → e ≡ K .does (chain K (begin first) calls .state) c .seen
-        same {first} {calls} {h} {seen} {c} {s} {e} R d = G .follows (h .state) (chain K (begin first) calls .state) c s e (beside R .stands) d .seen-same
-
-        unchanged : {first : K .State} {calls : List (K .Call)} {h : CodeHistory L} {seen : List (SeenOf L)} {c : K .Call} {s : L .State} {e : SeenOf L}
-            → Reached L first calls h seen → L .Does (h .state) c s e → Leaves (chain K (begin first) calls .state) c → (s ≡ h .state) × (e .lent ≡ L .lentTo c)
-        unchanged R d stays = (
-          left-as-it-was K (L .Does) (G .Stands) (G .follows) (G .same-form) (beside R .stands) d (stays .0),
-          ap (λ (k : SeenOf L). k .lent) (same R d) ∙ stays .1,
-        )
 
     pub demand2 : Demand2 L
     demand2 =

@@ -11,7 +11,7 @@ use Rattle.model.specs.Calls.{opened, offered, departed, burst, flowNumbers, op
 use Rattle.model.specs.Replies.{told}
 use Rattle.model.specs.Rules.{count, standing}
 use Rattle.model.specs.Chain.{Seen, begin, chain}
-use Rattle.model.specs.OrderCalls.{Call, Packet, bursting, orderCalls}
+use Rattle.model.specs.OrderCalls.{Call, Packet, departing, bursting, orderCalls}
 use Rattle.model.specs.declared.Answer.the-variants.{Refused as AnswerRefused}
 use Rattle.model.specs.declared.Count.the-variants.{Refused as CountRefused}
 use Rattle.model.specs.declared.Reply.the-variants.{Refused}
@@ -50,7 +50,7 @@ use Rattle.site_account.proofs.Slots.{store-slots-in-turn}
 use Rattle.site_account.proofs.Theorems.{store-account, store-exact-bound, store-pair-bound}
 use Rattle.demands.specs.Demands.{Reached, CodeHistory, SeenOf, Demand1, Demand2, Demand3}
 use Rattle.demands.specs.Layers.{orderLayer, storeLayer}
-use Rattle.demands.proofs.Argument.{Grounds, beside, demand1, demand2, demand3}
+use Rattle.demands.proofs.Argument.{Grounds, beside, seen-same, unchanged, demand1, demand2, demand3}
 
 -- ---- why
 
@@ -63,7 +63,6 @@ order-grounds =
       same-form = λ c d s. Order.same-form;
       premise = λ c s. Order.sound-of-standing;
       refused-leaves = OnSizes.refused-unchanged;
-      unsent-leaves = OnSizes.unsent-unchanged;
       balanced = λ c s new calls f. rw (new .1) (nothing-lost calls f);
       account = account;
       pair-bound = pair-bound;
@@ -79,7 +78,6 @@ store-grounds =
       same-form = λ c d s. Site.same-form;
       premise = λ c s. Site.sound-of-standing;
       refused-leaves = Kept.refused-unchanged;
-      unsent-leaves = Kept.unsent-unchanged;
       balanced = λ c s new calls f. rw (new .1) (bytes-kept (c .store) (new .2) calls f);
       account = store-account;
       pair-bound = store-pair-bound;
@@ -110,6 +108,23 @@ store-keeps-demand-3 = demand3 storeLayer store-grounds
 pub no-controller-in-line-twice : (calls : List Call) (f : ℕ) → count f (standing (chain orderCalls (begin newScheduler) calls .state .round)) ≤ 1
 no-controller-in-line-twice calls f = never-twice (chain orderCalls (begin newScheduler) calls .state) (every-state-keeps-the-rules calls) f
 
+-- ---- idle
+
+-- Idle changes neither state nor store nor outgoing buffer: no departure call does with which nothing leaves.
+pub order-idle-changes-nothing : {first : Scheduler} {calls : List Call} {h : CodeHistory orderLayer} {seen : List (SeenOf orderLayer)} {s : State} {e : SeenOf orderLayer}
+    → Reached orderLayer first calls h seen → Does (h .state) departing s e → e .sends ≡ [] → s ≡ h .state
+order-idle-changes-nothing {first} {calls} R d none =
+    unchanged orderLayer order-grounds R d
+    (OnSizes.unsent-departure-unchanged (chain orderCalls (begin first) calls .state) (sym (ap (λ (k : SeenOf orderLayer). k .sends) (seen-same orderLayer order-grounds R d)) ∙ none))
+    .0
+
+pub store-idle-changes-nothing : {first : WithStore Scheduler} {calls : List StoreCall} {h : CodeHistory storeLayer} {seen : List (SeenOf storeLayer)} {n : ℕ} {out : List ℕ}
+    {s : WithStore Site} {e : SeenOf storeLayer} → Reached storeLayer first calls h seen → StoreCode.Does (h .state) (OnBytes.departing n out) s e → e .sends ≡ []
+    → (s ≡ h .state) × (e .back ≡ e .lent)
+store-idle-changes-nothing {first} {calls} {h} {seen} {n} {out} R d none =
+    unchanged storeLayer store-grounds R d
+    (Kept.unsent-departure-unchanged (chain storeCalls (begin first) calls .state) n out (sym (ap (λ (k : SeenOf storeLayer). k .sends) (seen-same storeLayer store-grounds R d)) ∙ none))
+
 -- ---- burst
 
 module _ {first : Scheduler} {calls : List Call} {h : CodeHistory orderLayer} {seen : List (SeenOf orderLayer)} (R : Reached orderLayer first calls h seen) where
@@ -123,7 +138,7 @@ module _ {first : Scheduler} {calls : List Call} {h : CodeHistory orderLayer} {s
   -- Burst's reply carries the number of departures made, at most the number asked for; it writes one byte, the flow number, per departure into the list
   -- from its start, and the rest of the list is unchanged.
   pub burst-counts-and-writes : {n : ℕ} {list : List ℕ} {s : State} {e : Seen Packet Sent} → Does (h .state) (bursting n list) s e → e .says .refusal ≡ 0
-      → (e .says ≡ told (length (e .sends) ∷ [])) × (length (e .sends) ≤ n) × (e .lent ≡ flowNumbers (e .sends) ++ drop (length (e .sends)) list)
+      → (e .says ≡ told (length (e .sends) ∷ [])) × (length (e .sends) ≤ n) × (e .back ≡ flowNumbers (e .sends) ++ drop (length (e .sends)) list)
   burst-counts-and-writes {n} {list} {s} {e} d accepted =
       let same = shown d .1 in
       let B : BurstShows n list e =
@@ -142,17 +157,23 @@ module _ {first : Scheduler} {calls : List Call} {h : CodeHistory orderLayer} {s
       ∙ ap encode (burst-state (chain orderCalls (begin first) calls .state) n before enough)
       ∙ sym (Order.singles-lead singles (chain orderCalls (begin first) calls .state) S)
 
-  -- N = 0 changes nothing.
+  -- N = 0 changes nothing, and neither does a burst at idle.
   pub burst-of-none : {list : List ℕ} {s : State} {e : Seen Packet Sent} → Does (h .state) (bursting 0 list) s e
-      → (s ≡ h .state) × (e .lent ≡ list) × (e .says ≡ told (0 ∷ []))
+      → (s ≡ h .state) × (e .back ≡ list) × (e .says ≡ told (0 ∷ []))
   unfolding order-grounds
   burst-of-none {list} d =
       let none = none-asked (chain orderCalls (begin first) calls .state) list in
       let same = shown d .1 ∙ none .1 in (
         shown d .0 ∙ ap encode (none .0) ∙ sym (beside orderLayer order-grounds R .stands .form),
-        ap (λ (k : Seen Packet Sent). k .lent) same,
+        ap (λ (k : Seen Packet Sent). k .back) same,
         ap (λ (k : Seen Packet Sent). k .says) same,
       )
+
+  pub burst-at-idle : {n : ℕ} {list : List ℕ} {s : State} {e : Seen Packet Sent} → Does (h .state) (bursting n list) s e → e .sends ≡ []
+      → (s ≡ h .state) × (e .back ≡ e .lent)
+  burst-at-idle {n} {list} d none =
+      unchanged orderLayer order-grounds R d
+      (OnSizes.unsent-burst-unchanged (chain orderCalls (begin first) calls .state) n list (sym (ap (λ (k : Seen Packet Sent). k .sends) (shown d .1)) ∙ none))
 
 -- ---- slots
 

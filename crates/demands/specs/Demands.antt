@@ -2,8 +2,7 @@
 -- layer of the box.
 use Prim.Native.Nat.{ℕ, _+_, _*_, _-_, _≤_, _<_}
 use mathlib.Core.Path.{_≡_}
-use mathlib.Core.List.{List, [], _++_}
-use mathlib.Core.Bool.{Bool, true}
+use mathlib.Core.List.{List, _++_}
 use lib.ListN.{length}
 use Rattle.model.specs.Chain.{Seen, Kind, History, begin, chain, seenOver}
 use Rattle.model.specs.Runs.{Run}
@@ -17,9 +16,6 @@ pub record Layer : Type 1 where
   pub Does : State → kind .Call → State → Seen (kind .Packet) (kind .Departure) → Type 0
   pub New : State → kind .State → Type 0
   pub Premise : State → Type 0
-  -- the list or outgoing buffer that is lent to a call, and whether the call asks for departures
-  pub lentTo : kind .Call → List ℕ
-  pub asksForDepartures : kind .Call → Bool
   -- what a flow's packets are known by, their sizes or their bytes: of those accepted, of those that left, of those that wait
   pub Load : Type 0
   pub accepted : ℕ → List (kind .Packet) → List Load
@@ -53,10 +49,7 @@ module _ (L : Layer) where
         → L .Premise (h .state)
     -- Bad input is refused with a fixed number; a refusal changes neither the scheduler nor any buffer lent to it.
     pub refusal-changes-nothing : {first : L .kind .State} {calls : List (L .kind .Call)} {h : CodeHistory} {seen : List SeenOf} {c : L .kind .Call} {s : L .State} {e : SeenOf}
-        → Reached first calls h seen → L .Does (h .state) c s e → 1 ≤ e .says .refusal → (s ≡ h .state) × (e .lent ≡ L .lentTo c)
-    -- Idle changes none of them either, nor does any call for departures with which nothing leaves.
-    pub nothing-sent-nothing-changed : {first : L .kind .State} {calls : List (L .kind .Call)} {h : CodeHistory} {seen : List SeenOf} {c : L .kind .Call} {s : L .State} {e : SeenOf}
-        → Reached first calls h seen → L .Does (h .state) c s e → L .asksForDepartures c ≡ true → e .sends ≡ [] → (s ≡ h .state) × (e .lent ≡ L .lentTo c)
+        → Reached first calls h seen → L .Does (h .state) c s e → 1 ≤ e .says .refusal → (s ≡ h .state) × (e .back ≡ e .lent)
     -- For every input the contract determines reply, new state and lent bytes: no second outcome meets it.
     pub no-second-outcome : {first : L .kind .State} {calls : List (L .kind .Call)} {h : CodeHistory} {seen : List SeenOf} {c : L .kind .Call} {s t : L .State} {d e : SeenOf}
         → Reached first calls h seen → L .Does (h .state) c s d → L .Does (h .state) c t e → (s ≡ t) × (d ≡ e)

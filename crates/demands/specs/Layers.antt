@@ -5,7 +5,6 @@ use mathlib.Core.List.{List}
 use lib.ListN.{length}
 use Rattle.model.specs.Model.{Scheduler, flowAt, newScheduler}
 use Rattle.model.specs.OrderCalls.{orderCalls, sizesOf, packetsOf}
-use Rattle.model.specs.OrderCalls as OrderCall
 use Rattle.order.specs.Encoding.{Sound}
 use Rattle.order.specs.Promised as Order
 use Rattle.order.specs.Runs as OrderCode
@@ -14,7 +13,6 @@ use Rattle.store.specs.Slots.{storeLength}
 use Rattle.store.specs.Promised.{SoundSite}
 use Rattle.store.specs.Promised as Store
 use Rattle.store.specs.StoreCalls.{WithStore, withStore, storeCalls, bytesOf, waitingBytes}
-use Rattle.store.specs.StoreCalls as StoreCall
 use Rattle.store.specs.Runs as StoreCode
 use Rattle.store.specs.declared.Site.{Site}
 use Rattle.demands.specs.Demands.{Layer}
@@ -27,8 +25,6 @@ orderLayer =
       Does = OrderCode.Does;
       New = λ c s. Order.NewGives c × (s ≡ newScheduler);
       Premise = Sound;
-      lentTo = OrderCall.lentTo;
-      asksForDepartures = OrderCall.asksForDepartures;
       Load = ℕ;
       accepted = sizesOf;
       left = λ f l. sizesOf f (packetsOf l);
@@ -44,8 +40,6 @@ storeLayer =
       Does = StoreCode.Does;
       New = λ c s. Store.NewGives (c .keeper) × (s ≡ withStore newScheduler (c .store)) × (length (c .store) ≡ storeLength);
       Premise = λ c. SoundSite (c .keeper);
-      lentTo = StoreCall.lentTo;
-      asksForDepartures = StoreCall.asksForDepartures;
       Load = List ℕ;
       accepted = bytesOf;
       left = bytesOf;

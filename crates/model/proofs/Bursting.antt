@@ -33,7 +33,7 @@ departures-at-most (suc n) s = by (departed s .reply) (departures-at-most n (dep
 pub record BurstShows (n : ℕ) (list : List ℕ) (e : Seen Packet Sent) : Type 0 where
   pub counts : e .says ≡ told (length (e .sends) ∷ [])
   pub at-most : length (e .sends) ≤ n
-  pub writes : e .lent ≡ flowNumbers (e .sends) ++ drop (length (e .sends)) list
+  pub writes : e .back ≡ flowNumbers (e .sends) ++ drop (length (e .sends)) list
 
 pub burst-shows : (s : Scheduler) (n : ℕ) (list : List ℕ) → does s (bursting n list) .seen .says .refusal ≡ 0 → BurstShows n list (does s (bursting n list) .seen)
 unfolding does burst burstMade
@@ -43,14 +43,14 @@ burst-shows s n list = by (burstRefusal n list) refl
     made m = ifZero m (burstMade list (departures n s)) (record { state = s; list = list; reply = CountRefused (burstRefusal n list) })
 
     by : (m : ℕ) → burstRefusal n list ≡ m → ofCount (made m .reply) .refusal ≡ 0
-        → BurstShows n list (seenDeparting (ofCount (made m .reply)) (made m .list) (madeBy (made m .reply) (departures n s .sent)))
+        → BurstShows n list (seenDeparting (ofCount (made m .reply)) list (made m .list) (madeBy (made m .reply) (departures n s .sent)))
     by zero e none = record { counts = refl; at-most = departures-at-most n s; writes = refl }
     by (suc m) e none = absurd (omega arith)
 
 -- A burst of none.
-pub none-asked : (s : Scheduler) (list : List ℕ) → (does s (bursting 0 list) .state ≡ s) × (does s (bursting 0 list) .seen ≡ seenDeparting (told (0 ∷ [])) list [])
+pub none-asked : (s : Scheduler) (list : List ℕ) → (does s (bursting 0 list) .state ≡ s) × (does s (bursting 0 list) .seen ≡ seenDeparting (told (0 ∷ [])) list list [])
 unfolding does burst burstMade departures
-none-asked s list = (ap (λ (b : Burst). b .state) made, ap (λ (b : Burst). seenDeparting (ofCount (b .reply)) (b .list) (madeBy (b .reply) [])) made)
+none-asked s list = (ap (λ (b : Burst). b .state) made, ap (λ (b : Burst). seenDeparting (ofCount (b .reply)) list (b .list) (madeBy (b .reply) [])) made)
   where
     made : burst s 0 list ≡ burstMade list (departures 0 s)
     made = zero-chosen (burstRefusal 0 list) (burstMade list (departures 0 s)) _ (ap (λ (b : Bool). cond b 9 0) (le-ltb (length list) 0 (omega arith)))

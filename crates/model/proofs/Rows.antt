@@ -10,7 +10,7 @@ use Rattle.model.specs.Steps.{allowance, raised}
 use Rattle.model.specs.Replies.{Said, told, refused}
 use Rattle.model.specs.OrderCalls.{Call, resetting, opening, offering, departing, bursting, does}
 
--- A call with what it says and the list lent to it as it then is.
+-- A call with what it says and the list that it gives back.
 pub record Exchange : Type 0 where
   pub call : Call
   pub says : Said
@@ -107,7 +107,7 @@ rows =
 unfoldable pub answers : Scheduler → List Exchange → List Exchange
 answers s [] = []
 answers s (e ∷ more) =
-    record { call = e .call; says = does s (e .call) .seen .says; list = does s (e .call) .seen .lent } ∷ answers (does s (e .call) .state) more
+    record { call = e .call; says = does s (e .call) .seen .says; list = does s (e .call) .seen .back } ∷ answers (does s (e .call) .state) more
 
 -- How many stand in line, the visits left, both marks, and of each flow its weight, surplus, slot and packets.
 unfoldable pub numbersOf : Scheduler → List ℕ

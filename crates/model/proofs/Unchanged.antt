@@ -2,14 +2,13 @@
 use Prim.Native.Nat.{ℕ, zero, suc, _≤_}
 use mathlib.Core.Path.{_≡_, refl, sym, ap, _∙_}
 use mathlib.Core.List.{List, [], _∷_}
-use mathlib.Core.Bool.{true}
 use native.Mathlib.Omega.{arith}
 use lib.ListN.{length}
 use Rattle.model.specs.Choose.{ifZero}
 use Rattle.model.specs.Model.{Scheduler, flowAt}
 use Rattle.model.specs.Calls.{Burst, Departures, put, openFlow, opened, offered, departed, departures, andThen, burst, burstMade, burstRefusal, unlessRefused, openRefusal, offerRefusal, answerOf}
 use Rattle.model.specs.Replies.{ofAnswer, ofReply, ofCount, sentBy, madeBy}
-use Rattle.model.specs.OrderCalls.{Call, resetting, opening, offering, departing, bursting, does, lentTo, asksForDepartures}
+use Rattle.model.specs.OrderCalls.{Call, resetting, opening, offering, departing, bursting, does}
 use Rattle.model.specs.declared.Answer.the-variants.{Refused as AnswerRefused}
 use Rattle.model.specs.declared.Count.the-variants.{Refused as CountRefused}
 use Rattle.model.specs.declared.Reply.{Reply}
@@ -19,7 +18,7 @@ use Rattle.model.proofs.Choosing.{chosen-has}
 use Rattle.model.proofs.Departing.{idle-stays, never-refused}
 
 abbrev pub Unchanged : Scheduler → Call → Type 0
-Unchanged s c = (does s c .state ≡ s) × (does s c .seen .lent ≡ lentTo c)
+Unchanged s c = (does s c .state ≡ s) × (does s c .seen .back ≡ does s c .seen .lent)
 
 pub unless-refused : (n : ℕ) (s t : Scheduler) → 1 ≤ ofAnswer (unlessRefused n s t .reply) .refusal → unlessRefused n s t .state ≡ s
 unfolding unlessRefused
@@ -76,14 +75,14 @@ unsent-burst-stays s n list =
     (λ e none. (none-made-stays n s none, none-written list (departures n s) none))
     (λ none. (refl, refl))
 
--- A departure call or a burst with which nothing leaves changes nothing: at idle, and where none is asked for.
-pub unsent-unchanged : (s : Scheduler) (c : Call) → asksForDepartures c ≡ true → does s c .seen .sends ≡ [] → Unchanged s c
+-- A departure call with which nothing leaves changes nothing, nor does such a burst: at idle, and where none is asked for.
+pub unsent-departure-unchanged : (s : Scheduler) → does s departing .seen .sends ≡ [] → Unchanged s departing
 unfolding does
-unsent-unchanged s resetting asks none = let z : _≡_ {A = ℕ} 0 1 = cc in absurd (omega arith)
-unsent-unchanged s (opening f weight) asks none = let z : _≡_ {A = ℕ} 0 1 = cc in absurd (omega arith)
-unsent-unchanged s (offering f size) asks none = let z : _≡_ {A = ℕ} 0 1 = cc in absurd (omega arith)
-unsent-unchanged s departing asks none = (unsent-stays s (departed s .reply) refl none, refl)
-unsent-unchanged s (bursting n list) asks none = unsent-burst-stays s n list none
+unsent-departure-unchanged s none = (unsent-stays s (departed s .reply) refl none, refl)
+
+pub unsent-burst-unchanged : (s : Scheduler) (n : ℕ) (list : List ℕ) → does s (bursting n list) .seen .sends ≡ [] → Unchanged s (bursting n list)
+unfolding does
+unsent-burst-unchanged s n list none = unsent-burst-stays s n list none
 
 -- ---- a refusal's number is not 0
 

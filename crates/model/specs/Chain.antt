@@ -6,11 +6,12 @@ use Rattle.model.specs.Model.{Scheduler}
 use Rattle.model.specs.Replies.{Said, told}
 use Rattle.model.specs.declared.Sent.{Sent}
 
--- What its caller sees of a call: what it says, the list or outgoing buffer lent to it as it then is, the packets that it accepts, those that leave, and
+-- What its caller sees of a call: what it says, the list or outgoing buffer lent to it and given back, the packets that it accepts, those that leave, and
 -- whether it forgets what came before it.
 pub record Seen (P D : Type 0) : Type 0 where
   pub says : Said
   pub lent : List ℕ
+  pub back : List ℕ
   pub accepts : List P
   pub sends : List D
   pub forgets : Bool
@@ -18,13 +19,13 @@ pub record Seen (P D : Type 0) : Type 0 where
 module _ {P D : Type 0} where
   -- A reset, which says nothing; an open or an offer; a departure or a burst.
   abbrev pub seenReset : Seen P D
-  seenReset = record { says = told []; lent = []; accepts = []; sends = []; forgets = true }
+  seenReset = record { says = told []; lent = []; back = []; accepts = []; sends = []; forgets = true }
 
   abbrev pub seenAsking : Said → List P → Seen P D
-  seenAsking says accepts = record { says = says; lent = []; accepts = accepts; sends = []; forgets = false }
+  seenAsking says accepts = record { says = says; lent = []; back = []; accepts = accepts; sends = []; forgets = false }
 
-  abbrev pub seenDeparting : Said → List ℕ → List D → Seen P D
-  seenDeparting says lent sends = record { says = says; lent = lent; accepts = []; sends = sends; forgets = false }
+  abbrev pub seenDeparting : Said → List ℕ → List ℕ → List D → Seen P D
+  seenDeparting says lent back sends = record { says = says; lent = lent; back = back; accepts = []; sends = sends; forgets = false }
 
 -- What a call does: the state that it gives back, what is seen of it, and the turns that it completes, each told by its last departure.
 pub record Effect (S P D : Type 0) : Type 0 where

@@ -12,4 +12,3 @@ pub mod Chain
 pub mod OrderCalls
 pub mod Runs
 pub mod Rules
-

@@ -2,7 +2,7 @@
 use Prim.Native.Nat.{ℕ, zero, suc}
 use mathlib.Core.Path.{_≡_}
 use mathlib.Core.List.{List, [], _∷_, _++_, map}
-use mathlib.Core.Bool.{Bool, true, false, cond}
+use mathlib.Core.Bool.{cond}
 use lib.Dec.{eqb}
 use Rattle.model.specs.Model.{Scheduler, newScheduler}
 use Rattle.model.specs.Calls.{opened, offered, departed, departures, burst}
@@ -47,11 +47,11 @@ does s (offering f size) =
       completes = [];
     }
 does s departing =
-    record { state = departed s .state; seen = seenDeparting (ofReply (departed s .reply)) [] (sentBy (departed s .reply)); completes = turnsOf 1 s }
+    record { state = departed s .state; seen = seenDeparting (ofReply (departed s .reply)) [] [] (sentBy (departed s .reply)); completes = turnsOf 1 s }
 does s (bursting n list) =
     record {
       state = burst s n list .state;
-      seen = seenDeparting (ofCount (burst s n list .reply)) (burst s n list .list) (madeBy (burst s n list .reply) (departures n s .sent));
+      seen = seenDeparting (ofCount (burst s n list .reply)) list (burst s n list .list) (madeBy (burst s n list .reply) (departures n s .sent));
       completes = madeBy (burst s n list .reply) (turnsOf n s);
     }
 
@@ -68,22 +68,6 @@ orderCalls =
       flowOf = λ d. d .flow;
       sizeOf = λ d. d .size;
     }
-
--- The list that is lent to a call.
-abbrev pub lentTo : Call → List ℕ
-lentTo resetting = []
-lentTo (opening f weight) = []
-lentTo (offering f size) = []
-lentTo departing = []
-lentTo (bursting n list) = list
-
--- Whether a call asks for departures.
-abbrev pub asksForDepartures : Call → Bool
-asksForDepartures resetting = false
-asksForDepartures (opening f weight) = false
-asksForDepartures (offering f size) = false
-asksForDepartures departing = true
-asksForDepartures (bursting n list) = true
 
 -- The sizes of the packets of flow f, in order.
 unfoldable pub sizesOf : ℕ → List Packet → List ℕ

@@ -106,8 +106,8 @@ follows c s call t e S (departs g) =
             rules = every-call-keeps s departing (S .rules);
           };
       seen-same =
-          ap (λ (a : Departed). seenDeparting (ofReply (a .reply)) [] (sentBy (a .reply))) (g .outcome)
-          ∙ ap (λ (k : Scheduler). seenDeparting (ofReply (departed k .reply)) [] (sentBy (departed k .reply))) (stands-for S);
+          ap (λ (a : Departed). seenDeparting (ofReply (a .reply)) [] [] (sentBy (a .reply))) (g .outcome)
+          ∙ ap (λ (k : Scheduler). seenDeparting (ofReply (departed k .reply)) [] [] (sentBy (departed k .reply))) (stands-for S);
     }
 follows c s call t e S (bursts {n} {before} {list} {r} {sent} g singles) =
     let counted : r .count ≡ burst s n before .reply = ap (λ (a : Counted). a .count) (g .outcome) ∙ ap (λ (k : Scheduler). burst k n before .reply) (stands-for S) in
@@ -119,7 +119,7 @@ follows c s call t e S (bursts {n} {before} {list} {r} {sent} g singles) =
             form = ap (λ (a : Counted). a .state) (g .outcome) ∙ ap (λ (k : Scheduler). encode (burst k n before .state)) (stands-for S);
             rules = every-call-keeps s (bursting n before) (S .rules);
           };
-      seen-same = λ i. seenDeparting (ofCount (counted i)) (written i) (madeBy (counted i) (made i));
+      seen-same = λ i. seenDeparting (ofCount (counted i)) before (written i) (madeBy (counted i) (made i));
     }
 
 -- A burst that is not refused gives back the state that as many single calls lead to.

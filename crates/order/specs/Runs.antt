@@ -26,6 +26,6 @@ pub data Does : State → Call → State → Seen Packet Sent → Type 0 where
   offers : {c : State} {f size : ℕ} {r : Placed} → OfferGives c f size r
       → Does c (offering f size) (r .state) (seenAsking (ofAnswer (r .answer)) (takenBy (r .answer) (record { flow = f; size = size })))
   departs : {c : State} {r : Departed} → DepartGives c r
-      → Does c departing (r .state) (seenDeparting (ofReply (r .reply)) [] (sentBy (r .reply)))
+      → Does c departing (r .state) (seenDeparting (ofReply (r .reply)) [] [] (sentBy (r .reply)))
   bursts : {c t : State} {n : ℕ} {before list : List ℕ} {r : Counted} {sent : List Sent} → BurstGives c n before list r → Singles n c sent t
-      → Does c (bursting n before) (r .state) (seenDeparting (ofCount (r .count)) list (madeBy (r .count) sent))
+      → Does c (bursting n before) (r .state) (seenDeparting (ofCount (r .count)) before list (madeBy (r .count) sent))

@@ -94,5 +94,5 @@ follows s m call t e S (departs {n} {out} {after} {r} g) =
             rules = depart-keeps (m .keeper) (lent n (m .store)) out (S .rules);
             store-same = S .store-same;
           };
-      seen-same = ap₂ (λ (a : SiteDeparted) (l : List ℕ). seenDeparting (ofReply (a .reply)) l (putOut (a .reply) l)) (there .0) (there .1);
+      seen-same = ap₂ (λ (a : SiteDeparted) (l : List ℕ). seenDeparting (ofReply (a .reply)) out l (putOut (a .reply) l)) (there .0) (there .1);
     }

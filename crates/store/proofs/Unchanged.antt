@@ -2,7 +2,6 @@
 use Prim.Native.Nat.{ℕ, zero, suc, _≤_}
 use mathlib.Core.Path.{_≡_, refl, sym, ap, ap₂, _∙_}
 use mathlib.Core.List.{List, [], _∷_}
-use mathlib.Core.Bool.{true}
 use native.Mathlib.Omega.{arith}
 use lib.ListN.{length}
 use Rattle.model.specs.Model.{Scheduler, flowAt}
@@ -14,12 +13,12 @@ use Rattle.model.proofs.Departing.{idle-stays, never-refused}
 use Rattle.model.specs.declared.Answer.the-variants.{Refused as AnswerRefused}
 use Rattle.model.proofs.Unchanged.{unless-refused, answer-not-zero}
 use Rattle.store.specs.Calls.{storeOffer, storeOfferRefusal, storeDepart, storeDepartRefusal}
-use Rattle.store.specs.StoreCalls.{StoreCall, WithStore, withStore, resetting, opening, offering, departing, lent, back, putOut, does, lentTo, asksForDepartures}
+use Rattle.store.specs.StoreCalls.{StoreCall, WithStore, withStore, resetting, opening, offering, departing, lent, back, putOut, does}
 use Rattle.store.proofs.CallLaws.{offer-refused, offer-number, depart-refused, depart-made, sent-nothing}
 use Rattle.store.proofs.Lending.{back-untouched}
 
 abbrev pub Unchanged : WithStore Scheduler → StoreCall → Type 0
-Unchanged s c = (does s c .state ≡ s) × (does s c .seen .lent ≡ lentTo c)
+Unchanged s c = (does s c .state ≡ s) × (does s c .seen .back ≡ does s c .seen .lent)
 
 -- A refusal's number says that the offer was refused.
 refused-by : (n : ℕ) → 1 ≤ ofAnswer (answerOf n) .refusal → n ≡ 0 → ⊥
@@ -83,12 +82,9 @@ refused-unchanged s (departing n out) refused =
     departure-stays s n out (refused-sends-none (storeDepart (s .keeper) (lent n (s .store)) out .reply) refused)
 
 -- Nor does a departure call with which nothing leaves.
-pub unsent-unchanged : (s : WithStore Scheduler) (c : StoreCall) → asksForDepartures c ≡ true → does s c .seen .sends ≡ [] → Unchanged s c
+pub unsent-departure-unchanged : (s : WithStore Scheduler) (n : ℕ) (out : List ℕ) → does s (departing n out) .seen .sends ≡ [] → Unchanged s (departing n out)
 unfolding does
-unsent-unchanged s resetting asks none = let z : _≡_ {A = ℕ} 0 1 = cc in absurd (omega arith)
-unsent-unchanged s (opening f weight) asks none = let z : _≡_ {A = ℕ} 0 1 = cc in absurd (omega arith)
-unsent-unchanged s (offering f packet n) asks none = let z : _≡_ {A = ℕ} 0 1 = cc in absurd (omega arith)
-unsent-unchanged s (departing n out) asks none =
+unsent-departure-unchanged s n out none =
     departure-stays s n out (none-put-out (storeDepart (s .keeper) (lent n (s .store)) out .reply) (storeDepart (s .keeper) (lent n (s .store)) out .out) none)
 
 -- A refusal's number is not 0.

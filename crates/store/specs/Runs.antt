@@ -17,4 +17,4 @@ pub data Does : WithStore Site → StoreCall → WithStore Site → Seen Packet 
       → Does s (offering f packet n) (withStore (r .site) (back (s .store) n after))
       (seenAsking (ofAnswer (r .answer)) (takenBy (r .answer) (record { flow = f; bytes = packet })))
   departs : {s : WithStore Site} {n : ℕ} {out after : List ℕ} {r : SiteDeparted} → DepartGives (s .keeper) (lent n (s .store)) out after r
-      → Does s (departing n out) (withStore (r .site) (s .store)) (seenDeparting (ofReply (r .reply)) after (putOut (r .reply) after))
+      → Does s (departing n out) (withStore (r .site) (s .store)) (seenDeparting (ofReply (r .reply)) out after (putOut (r .reply) after))

@@ -2,7 +2,7 @@
 use Prim.Native.Nat.{ℕ, _-_}
 use mathlib.Core.Path.{_≡_}
 use mathlib.Core.List.{List, [], _∷_, _++_, map}
-use mathlib.Core.Bool.{Bool, true, false, cond}
+use mathlib.Core.Bool.{cond}
 use lib.ListN.{length, take, drop, replicate}
 use lib.Dec.{eqb}
 use Rattle.model.specs.Model.{Scheduler, flowAt, newScheduler}
@@ -57,11 +57,11 @@ offerDoes store f packet n o =
       completes = [];
     }
 
-abbrev pub departureDoes : List ℕ → AfterDeparture → Effect (WithStore Scheduler) Packet Packet
-departureDoes store o =
+abbrev pub departureDoes : List ℕ → List ℕ → AfterDeparture → Effect (WithStore Scheduler) Packet Packet
+departureDoes store out o =
     record {
       state = withStore (o .state) store;
-      seen = seenDeparting (ofReply (o .reply)) (o .out) (putOut (o .reply) (o .out));
+      seen = seenDeparting (ofReply (o .reply)) out (o .out) (putOut (o .reply) (o .out));
       completes = turnThen (o .reply) (o .state .round .turn) [];
     }
 
@@ -74,7 +74,7 @@ does s (opening f weight) =
       completes = [];
     }
 does s (offering f packet n) = offerDoes (s .store) f packet n (storeOffer (s .keeper) f packet (lent n (s .store)))
-does s (departing n out) = departureDoes (s .store) (storeDepart (s .keeper) (lent n (s .store)) out)
+does s (departing n out) = departureDoes (s .store) out (storeDepart (s .keeper) (lent n (s .store)) out)
 
 -- A chain begins on a new scheduler and a store that may hold anything.
 abbrev pub storeCalls : Kind
@@ -90,20 +90,6 @@ storeCalls =
       flowOf = λ p. p .flow;
       sizeOf = λ p. length (p .bytes);
     }
-
--- The outgoing buffer that is lent to a call.
-abbrev pub lentTo : StoreCall → List ℕ
-lentTo resetting = []
-lentTo (opening f weight) = []
-lentTo (offering f packet n) = []
-lentTo (departing n out) = out
-
--- Whether a call asks for departures.
-abbrev pub asksForDepartures : StoreCall → Bool
-asksForDepartures resetting = false
-asksForDepartures (opening f weight) = false
-asksForDepartures (offering f packet n) = false
-asksForDepartures (departing n out) = true
 
 -- The bytes of the packets of flow f, packet by packet, in order.
 unfoldable pub bytesOf : ℕ → List Packet → List (List ℕ)
