@@ -1,7 +1,7 @@
 -- One closed stretch with its numbers, on which the exact bound is reached and the account has something to balance.
 -- Flow 0 weighs 1 and flow 1 weighs 2. In a round with mark 0 they send 3 and 2 bytes, then flow 0 sends 3 more in the next, whose mark is 2.
 -- Here the stretch begins. Flow 1 sends 3, 2 and 3 in its turn of that round; in the next, again with mark 2, flow 0 sends 1 and flow 1 sends 3 and 3.
-use Prim.Native.Nat.{ℕ, _+_, _*_, _-_, _≤_}
+use Prim.Native.Nat.{_+_, _*_, _-_, _≤_}
 use mathlib.Core.Path.{_≡_, refl}
 use mathlib.Core.List.{List, [], _∷_}
 use lib.ListN.{length}

@@ -6,7 +6,7 @@ use mathlib.Core.Bool.{cond}
 use lib.ListN.{length}
 use lib.Dec.{eqb}
 use Rattle.model.specs.Model.{Scheduler, flowAt}
-use Rattle.model.specs.Chain.{Seen, Effect, Kind, HistoryOf, begin, next, chain, over, seenOver}
+use Rattle.model.specs.Chain.{Seen, Effect, Kind, HistoryOf, begin, chain, over, seenOver}
 use Rattle.model.specs.declared.Sent.{Sent}
 use Rattle.model.specs.declared.Serving.the-variants.{Turn}
 

@@ -1,12 +1,11 @@
 -- One argument for both layers: what a layer must bring for the three demands to hold of it.
-use Prim.Native.Nat.{ℕ, _+_, _*_, _-_, _≤_, _<_}
-use mathlib.Core.Path.{_≡_, refl, sym, ap, ap₂, _∙_, subst}
+use Prim.Native.Nat.{ℕ, _+_, _*_, _-_, _≤_}
+use mathlib.Core.Path.{_≡_, refl, sym, ap, _∙_, subst}
 use mathlib.Core.List.{List, _++_}
 use lib.ListN.{length}
-use Rattle.model.specs.Chain.{Seen, Kind, HistoryOf, begin, chain, seenOver}
-use Rattle.model.specs.Runs.{Run}
+use Rattle.model.specs.Chain.{Kind, begin, chain}
 use Rattle.model.proofs.Following.{Follows, Beside, run-beside, run-seen, one-outcome, left-as-it-was}
-use Rattle.account.specs.Stretch.{Stretch, begun, ended, leftOver, sentIn, bytesOf, largestOf, bytesSent, largestSinceReset, WaitingThroughout, ConsecutiveTurns, weightOf, surplusBefore, surplusAfter, onePlusMarks}
+use Rattle.account.specs.Stretch.{Stretch, begun, ended, leftOver, sentIn, bytesSent, largestSinceReset, WaitingThroughout, ConsecutiveTurns, weightOf, surplusBefore, surplusAfter, onePlusMarks}
 use Rattle.account.proofs.Sums.{DifferByAtMost, DifferByLessThan}
 use Rattle.demands.specs.Demands.{Layer, CodeHistory, SeenOf, Reached, RunOver, Demand1, Demand2, Demand3}
 

@@ -1,13 +1,12 @@
 -- The theorems. A reader who believes the definitions that these statements reach (tools/believed lists them) need not look at any proof.
 use Prim.Native.Nat.{ℕ, _≤_, _%_}
-use mathlib.Core.Path.{_≡_, refl, sym, ap, _∙_, subst}
+use mathlib.Core.Path.{_≡_, sym, ap, _∙_, subst}
 use mathlib.Core.List.{List, [], _∷_, _++_}
 use lib.ListN.{length, drop}
-use native.Mathlib.Omega.{arith}
 use Rattle.model.specs.Limits.{queueLimit}
 use Rattle.model.specs.Model.{Scheduler, flowAt, newScheduler}
 use Rattle.model.specs.Steps.{nextSlotOf}
-use Rattle.model.specs.Calls.{opened, offered, departed, burst, flowNumbers, openRefusal, offerRefusal, unlessRefused}
+use Rattle.model.specs.Calls.{burst, flowNumbers}
 use Rattle.model.specs.Replies.{told}
 use Rattle.model.specs.Rules.{count, standing}
 use Rattle.model.specs.Chain.{Seen, begin, chain}
@@ -33,9 +32,8 @@ use Rattle.order.specs.declared.Counted.{Counted}
 use Rattle.order.proofs.Follows as Order
 use Rattle.account.proofs.Theorems.{account, exact-bound, pair-bound}
 use Rattle.store.specs.Slots.{storeLength, written}
-use Rattle.store.specs.StoreCalls.{WithStore, withStore, StoreCall, offering, storeCalls, bytesOf}
+use Rattle.store.specs.StoreCalls.{WithStore, StoreCall, offering, storeCalls, bytesOf}
 use Rattle.store.specs.StoreCalls as OnBytes
-use Rattle.store.specs.Calls.{storeOffer, storeDepart}
 use Rattle.store.specs.Promised as Store
 use Rattle.store.specs.Runs as StoreCode
 use Rattle.store.specs.declared.Site.{Site}

@@ -3,7 +3,7 @@ use Prim.Native.Nat.{ℕ}
 use mathlib.Core.Path.{_≡_}
 use mathlib.Core.List.{List}
 use lib.ListN.{length}
-use Rattle.model.specs.Model.{Scheduler, flowAt, newScheduler}
+use Rattle.model.specs.Model.{flowAt, newScheduler}
 use Rattle.model.specs.OrderCalls.{orderCalls, sizesOf, packetsOf}
 use Rattle.order.specs.Encoding.{Sound}
 use Rattle.order.specs.Promised as Order

@@ -1,26 +1,22 @@
 -- Demand 2 on sizes, over any list of calls from a new scheduler.
-use Prim.Native.Nat.{ℕ, zero, suc}
-use mathlib.Core.Path.{_≡_, refl, sym, ap, _∙_}
+use Prim.Native.Nat.{ℕ}
+use mathlib.Core.Path.{_≡_, sym, ap, _∙_}
 use mathlib.Core.List.{List, [], _∷_, _++_, append-nil, append-assoc, map-append}
 use mathlib.Core.Logic.{_↔_}
 use native.Mathlib.Omega.{arith}
-use lib.ListN.{length, replicate}
-use Rattle.model.specs.Choose.{ifZero}
+use lib.ListN.{length}
 use Rattle.model.specs.Model.{Flow, Scheduler, flowAt}
 use Rattle.model.specs.Steps.{whose}
-use Rattle.model.specs.Calls.{Burst, opened, offered, departed, departures, burst, burstMade, unlessRefused, openRefusal, offerRefusal, burstRefusal}
+use Rattle.model.specs.Calls.{Burst, offered, departed, departures, burst, burstMade, burstRefusal}
 use Rattle.model.specs.Rules.{Rules}
 use Rattle.model.specs.Replies.{sentBy, takenBy, madeBy}
 use Rattle.model.specs.Chain.{moved, next, chain}
 use Rattle.model.specs.OrderCalls.{Call, resetting, opening, offering, departing, bursting, does, orderCalls, Packet, sizesOf, packetsOf}
-use Rattle.model.specs.declared.Answer.the-variants.{Refused as AnswerRefused}
-use Rattle.model.specs.declared.Count.{Count}
-use Rattle.model.specs.declared.Count.the-variants.{Refused as CountRefused}
 use Rattle.model.specs.declared.Reply.the-variants.{Departure, Idle}
 use Rattle.model.specs.declared.Sent.{Sent}
 use Rattle.model.proofs.Choosing.{chosen-has}
 use Rattle.model.proofs.Keeps.{new-closed, new-keeps}
-use Rattle.model.proofs.Departing.{departed-leaves, SendsOrStays, sends, stays, sends-or-stays, idle-stays}
+use Rattle.model.proofs.Departing.{departed-leaves, SendsOrStays, sends, stays, sends-or-stays}
 use Rattle.model.proofs.Chains.{OrderHistory, start, chain-keeps, chain-holds}
 use Rattle.model.proofs.Queues.{sizes-append, departed-queue, departures-queue, opened-queue, offered-queue}
 use Rattle.model.proofs.Standing.{nobody-waits}

@@ -1,7 +1,7 @@
 -- A run of code goes as the chain of the same calls, if each call does: what is seen of it is what the definitions' call shows, and the state that it gives
 -- back stands for the one that the definitions' call gives.
-use mathlib.Core.Path.{_≡_, refl, sym, ap, ap₂, _∙_, subst}
-use mathlib.Core.List.{List, [], _∷_}
+use mathlib.Core.Path.{_≡_, refl, sym, ap₂, _∙_, subst}
+use mathlib.Core.List.{List, _∷_}
 use Rattle.model.specs.Chain.{Seen, Kind, History, HistoryOf, moved, next, chain, over, seenOver}
 use Rattle.model.specs.Runs.{Run, ends, goes-on}
 

@@ -1,12 +1,12 @@
 -- What a refusal, an idle departure and a burst that makes no departure leave: the state and the lent list as they were.
 use Prim.Native.Nat.{ℕ, zero, suc, _≤_}
-use mathlib.Core.Path.{_≡_, refl, sym, ap, _∙_}
-use mathlib.Core.List.{List, [], _∷_}
+use mathlib.Core.Path.{_≡_, refl, sym, ap}
+use mathlib.Core.List.{List, []}
 use native.Mathlib.Omega.{arith}
 use lib.ListN.{length}
 use Rattle.model.specs.Choose.{ifZero}
 use Rattle.model.specs.Model.{Scheduler, flowAt}
-use Rattle.model.specs.Calls.{Burst, Departures, put, openFlow, opened, offered, departed, departures, andThen, burst, burstMade, burstRefusal, unlessRefused, openRefusal, offerRefusal, answerOf}
+use Rattle.model.specs.Calls.{Burst, Departures, opened, offered, departed, departures, andThen, burst, burstMade, burstRefusal, unlessRefused, openRefusal, offerRefusal, answerOf}
 use Rattle.model.specs.Replies.{ofAnswer, ofReply, ofCount, sentBy, madeBy}
 use Rattle.model.specs.OrderCalls.{Call, resetting, opening, offering, departing, bursting, does}
 use Rattle.model.specs.declared.Answer.the-variants.{Refused as AnswerRefused}

@@ -6,7 +6,7 @@ use mathlib.Core.Bool.{cond}
 use lib.Dec.{eqb}
 use Rattle.model.specs.Model.{Scheduler, newScheduler}
 use Rattle.model.specs.Calls.{opened, offered, departed, departures, burst}
-use Rattle.model.specs.Replies.{told, ofAnswer, ofReply, ofCount, sentBy, takenBy, madeBy}
+use Rattle.model.specs.Replies.{ofAnswer, ofReply, ofCount, sentBy, takenBy, madeBy}
 use Rattle.model.specs.Chain.{Effect, Kind, seenReset, seenAsking, seenDeparting}
 use Rattle.model.specs.declared.Sent.{Sent}
 use Rattle.model.specs.declared.Reply.{Reply}

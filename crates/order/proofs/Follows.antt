@@ -1,13 +1,13 @@
 -- Each call of the code does what the model's call does, on the scheduler that its state stands for.
-use Prim.Native.Nat.{ℕ, zero, suc, _≤_}
-use mathlib.Core.Path.{_≡_, refl, sym, ap, ap₂, _∙_, subst}
+use Prim.Native.Nat.{ℕ, _≤_}
+use mathlib.Core.Path.{_≡_, refl, sym, ap, _∙_, subst}
 use mathlib.Core.List.{List, [], _∷_, _++_}
 use Rattle.model.specs.Model.{Scheduler, newScheduler}
 use Rattle.model.specs.Rules.{Rules, count, standing}
 use Rattle.model.specs.Replies.{ofAnswer, ofReply, ofCount, sentBy, takenBy, madeBy}
 use Rattle.model.specs.Calls.{opened, offered, departed, departures, andThen, burst}
 use Rattle.model.specs.Chain.{Seen, seenAsking, seenDeparting}
-use Rattle.model.specs.OrderCalls.{Call, Packet, resetting, opening, offering, departing, bursting, does, orderCalls}
+use Rattle.model.specs.OrderCalls.{Call, Packet, opening, offering, departing, bursting, does, orderCalls}
 use Rattle.model.specs.declared.Reply.{Reply}
 use Rattle.model.specs.declared.Reply.the-variants.{Departure, Idle, Refused}
 use Rattle.model.specs.declared.Sent.{Sent}
@@ -16,14 +16,14 @@ use Rattle.model.proofs.Standing.{never-twice}
 use Rattle.model.proofs.Following.{Follows}
 use Rattle.model.proofs.Chains.{SendsNothing, Still, still-after}
 use Rattle.order.specs.Encoding.{encode, view, Sound}
-use Rattle.order.specs.Promised.{NewGives, DepartGives, answeredAs, offeredAs, departedAs, countedAs}
+use Rattle.order.specs.Promised.{NewGives, answeredAs, offeredAs, departedAs, countedAs}
 use Rattle.order.specs.Runs.{Singles, none, one-more, Does, resets, opens, offers, departs, bursts}
 use Rattle.order.specs.declared.State.{State}
 use Rattle.order.specs.declared.Answered.{Answered}
 use Rattle.order.specs.declared.Departed.{Departed}
 use Rattle.order.specs.declared.Placed.{Placed}
 use Rattle.order.specs.declared.Counted.{Counted}
-use Rattle.order.proofs.StateLaws.{seen-as, sound-of, depart-seen}
+use Rattle.order.proofs.StateLaws.{seen-as, sound-of}
 
 -- A state stands for a scheduler that keeps the rules.
 pub record Stands (c : State) (s : Scheduler) : Type 0 where

@@ -11,7 +11,7 @@ use Rattle.model.proofs.Chains as OnSizes
 use Rattle.account.specs.Stretch.{Stretch, Waiting, sumOf, turnFlow, onePlusMark, begun, ended, WaitingThroughout, sentIn, bytesSent, largestSinceReset, onePlusMarks, ConsecutiveTurns, weightOf, surplusBefore, surplusAfter}
 use Rattle.store.specs.Slots.{storeLength}
 use Rattle.store.specs.StoreCalls.{storeCalls}
-use Rattle.store.proofs.Kept.{StoreHistory, start, every-history-kept}
+use Rattle.store.proofs.Kept.{start, every-history-kept}
 use Rattle.store.proofs.OnSizes.{allOnSizes}
 use Rattle.site_account.proofs.Packets.{same-bytes, same-largest, same-count}
 use Rattle.site_account.proofs.Beside.{Beside, GoBeside, go-beside}

@@ -23,7 +23,7 @@ use Rattle.account.specs.Stretch.{leftOver, Waiting, WaitingAfterEvery, sentIn,
 use Rattle.account.proofs.Bursts.{sentFrom, turnsFrom, sent-append, turns-append, waiting-append}
 use Rattle.store.specs.Slots.{storeLength, outLimit}
 use Rattle.store.specs.Calls.{AfterDeparture, storeDepart, storeDepartRefusal}
-use Rattle.store.specs.StoreCalls.{StoreCall, resetting, opening, offering, departing, WithStore, withStore, lent, Packet, putOut, does, storeCalls}
+use Rattle.store.specs.StoreCalls.{StoreCall, resetting, opening, offering, departing, WithStore, withStore, lent, Packet, does, storeCalls}
 use Rattle.store.proofs.CallLaws.{depart-refused, depart-made}
 use Rattle.store.proofs.Lending.{lent-length}
 use Rattle.store.proofs.Balances.{taken, as-many-held, first-taken, none-taken}

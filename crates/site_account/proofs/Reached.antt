@@ -1,6 +1,6 @@
 -- One stretch of store calls with its numbers, whatever the store held at first: the calls of the order layer's closed stretch, with bytes. No byte of the
 -- store is looked at, so they hold of every store. The exact bound is reached on it, and the account has something to balance.
-use Prim.Native.Nat.{ℕ, _+_, _*_, _-_, _≤_}
+use Prim.Native.Nat.{ℕ, _+_, _*_, _-_}
 use mathlib.Core.Path.{_≡_, refl, sym, ap, _∙_, subst}
 use mathlib.Core.List.{List, [], _∷_}
 use native.Mathlib.Omega.{arith}

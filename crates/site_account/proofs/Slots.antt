@@ -7,14 +7,14 @@ use native.Mathlib.Omega.{arith}
 use lib.ListN.{length, length-append}
 use lib.Dec.{eqb}
 use Rattle.model.specs.Limits.{queueLimit}
-use Rattle.model.specs.Model.{Flow, Scheduler, flowAt}
+use Rattle.model.specs.Model.{Scheduler, flowAt}
 use Rattle.model.specs.Steps.{nextSlot, nextSlotOf}
 use Rattle.model.specs.Chain.{chain}
 use Rattle.model.specs.OrderCalls.{Packet as SizedPacket, sizesOf, packetsOf, orderCalls}
 use Rattle.model.proofs.Chains as OnSizes
 use Rattle.model.proofs.Demand2.{nothing-lost}
 use Rattle.model.proofs.Slots.{slots-in-turn}
-use Rattle.store.specs.Slots.{storeLength, held}
+use Rattle.store.specs.Slots.{storeLength}
 use Rattle.store.specs.StoreCalls.{StoreCall, Packet, storeCalls, bytesOf, heldFrom, waitingBytes}
 use Rattle.store.proofs.Kept.{StoreHistory, start, bytes-kept}
 use Rattle.store.proofs.OnSizes.{allOnSizes}

@@ -7,7 +7,6 @@ use native.Mathlib.Decide.{decLt}
 use lib.ListN.{length, take, drop}
 use lib.Seq.{take-at}
 use Rattle.model.specs.Limits.{flowLimit, queueLimit, sizeLimit}
-use Rattle.model.specs.Choose.{ifZero}
 use Rattle.model.specs.Model.{Flow, Scheduler, flowAt, newScheduler}
 use Rattle.model.specs.Steps.{packetJoined, flowLined, nextSlotOf}
 use Rattle.model.specs.Calls.{put, openFlow, opened, openRefusal, offered, offerRefusal, departed, answerOf, unlessRefused}

@@ -7,14 +7,11 @@ use Rattle.model.specs.Rules.{Rules}
 use Rattle.model.specs.Replies.{ofAnswer, ofReply, takenBy}
 use Rattle.model.specs.Calls.{opened}
 use Rattle.model.specs.Chain.{Seen, seenAsking, seenDeparting}
-use Rattle.model.specs.declared.Answer.{Answer}
-use Rattle.model.specs.declared.Reply.{Reply}
 use Rattle.model.proofs.Keeps.{new-keeps, opened-keeps}
 use Rattle.model.proofs.Following.{Follows}
-use Rattle.order.specs.Encoding.{Sound}
 use Rattle.order.proofs.StateLaws.{seen-as, sound-of}
 use Rattle.store.specs.Calls.{AfterOffer, AfterDeparture, storeOffer, storeDepart}
-use Rattle.store.specs.Promised.{schedulerOf, SoundSite, siteOf, answeredAs, departedAs, NewGives, OpenGives, OfferGives, DepartGives}
+use Rattle.store.specs.Promised.{schedulerOf, SoundSite, siteOf, answeredAs, departedAs, NewGives, OfferGives, DepartGives}
 use Rattle.store.specs.StoreCalls.{StoreCall, WithStore, lent, back, Packet, putOut, does, storeCalls}
 use Rattle.store.specs.Runs.{Does, resets, opens, offers, departs}
 use Rattle.store.specs.declared.Site.{Site}

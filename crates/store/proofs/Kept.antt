@@ -7,7 +7,7 @@ use lib.ListN.{length}
 use Rattle.model.specs.Rules.{Rules}
 use Rattle.model.proofs.Keeps.{new-keeps, opened-keeps}
 use Rattle.store.specs.Slots.{storeLength}
-use Rattle.model.specs.Model.{Scheduler, newScheduler}
+use Rattle.model.specs.Model.{newScheduler}
 use Rattle.model.specs.Replies.{takenBy}
 use Rattle.model.specs.Chain.{HistoryOf, begin, moved, next, chain}
 use Rattle.store.specs.Calls.{storeOffer}

@@ -5,7 +5,7 @@ use mathlib.Core.List.{List, [], _∷_}
 use native.Mathlib.Omega.{arith}
 use lib.ListN.{length}
 use Rattle.model.specs.Model.{Scheduler, flowAt}
-use Rattle.model.specs.Calls.{opened, departed, openRefusal, answerOf, unlessRefused}
+use Rattle.model.specs.Calls.{opened, departed, openRefusal, answerOf}
 use Rattle.model.specs.Replies.{ofAnswer, ofReply, sentBy}
 use Rattle.model.specs.declared.Reply.{Reply}
 use Rattle.model.specs.declared.Reply.the-variants.{Departure, Idle, Refused}
