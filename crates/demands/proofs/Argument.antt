@@ -24,6 +24,7 @@ module _ (L : Layer) where
     pub follows : (s : L .State) (m : K .State) (c : K .Call) (t : L .State) (e : SeenOf L) → Stands s m → L .Does s c t e → Follows K (L .Does) Stands m c t e
     pub same-form : (s t : L .State) (m : K .State) → Stands s m → Stands t m → s ≡ t
     pub premise : (s : L .State) (m : K .State) → Stands s m → L .Premise s
+    pub outcome : (s : L .State) (m : K .State) → Stands s m → (c : K .Call) → (t : L .State) × (e : SeenOf L) × L .Does s c t e
     -- what is proved of the definitions' calls
     pub refused-leaves : (m : K .State) (c : K .Call) → 1 ≤ K .does m c .seen .says .refusal → Leaves m c
     pub balanced : (s : L .State) (m : K .State) → L .New s m → (calls : List (K .Call)) (f : ℕ)
@@ -59,6 +60,7 @@ module _ (L : Layer) where
     demand1 =
         record {
           premise-holds = λ {first} {calls} {h} R. G .premise (h .state) (chain K (begin first) calls .state) (beside R .stands);
+          has-an-outcome = λ {first} {calls} {h} R c. G .outcome (h .state) (chain K (begin first) calls .state) (beside R .stands) c;
           refusal-changes-nothing = λ {first} {calls} {h} {seen} {c} {s} {e} R d refused.
               unchanged R d (G .refused-leaves (chain K (begin first) calls .state) c (subst (λ (k : SeenOf L). 1 ≤ k .says .refusal) (seen-same R d) refused));
           no-second-outcome = λ R d e. one-outcome K (L .Does) (G .Stands) (G .follows) (G .same-form) (beside R .stands) d e;

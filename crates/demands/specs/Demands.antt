@@ -43,10 +43,12 @@ module _ (L : Layer) where
     pub to-end : Run (L .Does) begun (x .calls) h seen
 
   -- DEMAND 1. Any call, on any state our calls have given, with any numbers and any buffers, ends and does nothing undefined. That is proved of every
-  -- function, and the one premise of a call holds of every state that calls have given.
+  -- function, and the one premise of a call holds of every state that calls have given; so every call on it has an outcome.
   pub record Demand1 : Type 0 where
     pub premise-holds : {first : L .kind .State} {calls : List (L .kind .Call)} {h : CodeHistory} {seen : List SeenOf} → Reached first calls h seen
         → L .Premise (h .state)
+    pub has-an-outcome : {first : L .kind .State} {calls : List (L .kind .Call)} {h : CodeHistory} {seen : List SeenOf} → Reached first calls h seen
+        → (c : L .kind .Call) → (s : L .State) × (e : SeenOf) × L .Does (h .state) c s e
     -- Bad input is refused with a fixed number; a refusal changes neither the scheduler nor any buffer lent to it.
     pub refusal-changes-nothing : {first : L .kind .State} {calls : List (L .kind .Call)} {h : CodeHistory} {seen : List SeenOf} {c : L .kind .Call} {s : L .State} {e : SeenOf}
         → Reached first calls h seen → L .Does (h .state) c s e → 1 ≤ e .says .refusal → (s ≡ h .state) × (e .back ≡ e .lent)

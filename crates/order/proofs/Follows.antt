@@ -1,22 +1,22 @@
 -- Each call of the code does what the model's call does, on the scheduler that its state stands for.
-use Prim.Native.Nat.{ℕ, _≤_}
+use Prim.Native.Nat.{ℕ, zero, suc, _≤_}
 use mathlib.Core.Path.{_≡_, refl, sym, ap, _∙_, subst}
 use mathlib.Core.List.{List, [], _∷_, _++_}
 use Rattle.model.specs.Model.{Scheduler, newScheduler}
 use Rattle.model.specs.Rules.{Rules, count, standing}
 use Rattle.model.specs.Replies.{ofAnswer, ofReply, ofCount, sentBy, takenBy, madeBy}
 use Rattle.model.specs.Calls.{opened, offered, departed, departures, andThen, burst}
-use Rattle.model.specs.Chain.{Seen, seenAsking, seenDeparting}
-use Rattle.model.specs.OrderCalls.{Call, Packet, opening, offering, departing, bursting, does, orderCalls}
+use Rattle.model.specs.Chain.{Seen, seenReset, seenAsking, seenDeparting}
+use Rattle.model.specs.OrderCalls.{Call, Packet, resetting, opening, offering, departing, bursting, does, orderCalls}
 use Rattle.model.specs.declared.Reply.{Reply}
 use Rattle.model.specs.declared.Reply.the-variants.{Departure, Idle, Refused}
 use Rattle.model.specs.declared.Sent.{Sent}
-use Rattle.model.proofs.Keeps.{new-keeps, every-call-keeps, departed-keeps}
+use Rattle.model.proofs.Keeps.{new-keeps, every-call-keeps, opened-keeps, offered-keeps, departed-keeps, burst-keeps}
 use Rattle.model.proofs.Standing.{never-twice}
 use Rattle.model.proofs.Following.{Follows}
 use Rattle.model.proofs.Chains.{SendsNothing, Still, still-after}
 use Rattle.order.specs.Encoding.{encode, view, Sound}
-use Rattle.order.specs.Promised.{NewGives, answeredAs, offeredAs, departedAs, countedAs}
+use Rattle.order.specs.Promised.{NewGives, DepartGives, answeredAs, offeredAs, departedAs, countedAs}
 use Rattle.order.specs.Runs.{Singles, none, one-more, Does, resets, opens, offers, departs, bursts}
 use Rattle.order.specs.declared.State.{State}
 use Rattle.order.specs.declared.Answered.{Answered}
@@ -129,3 +129,28 @@ singles-lead singles s S = singles-made singles s S .leads-to
 -- The old chooser's fault is impossible: in the line as the code keeps it no flow stands twice, nor does it while it has the turn.
 pub no-controller-in-line-twice : {c : State} {s : Scheduler} → Stands c s → (f : ℕ) → count f (standing (view c .round)) ≤ 1
 no-controller-in-line-twice {c} S f = never-twice (view c) (sound-of-standing S .rules) f
+
+-- ---- every call has an outcome
+
+singles-exist : (n : ℕ) (c : State) (s : Scheduler) → Stands c s → (sent : List Sent) × (t : State) × Singles n c sent t
+unfolding departedAs
+singles-exist zero c s S = ([], c, none)
+singles-exist (suc n) c s S =
+    let r : Departed = departedAs (view c) in
+    let g : DepartGives c r = record { outcome = refl; sound = sound-of (departed (view c) .state) (departed-keeps (view c) (sound-of-standing S .rules)) } in
+    let more = singles-exist n (r .state) (departed (view c) .state) (record { form = refl; rules = departed-keeps (view c) (sound-of-standing S .rules) }) in
+    (sentBy (r .reply) ++ more .0, more .1, one-more g (more .2))
+
+pub has-outcome : (c : State) (s : Scheduler) → Stands c s → (call : Call) → (t : State) × (e : Seen Packet Sent) × Does c call t e
+unfolding answeredAs offeredAs departedAs countedAs
+has-outcome c s S resetting = (encode newScheduler, seenReset, resets (record { outcome = refl; sound = sound-of newScheduler new-keeps }))
+has-outcome c s S (opening f weight) =
+    (_, _, opens {r = answeredAs (opened (view c) f weight)} (record { outcome = refl; sound = sound-of _ (opened-keeps (view c) f weight (sound-of-standing S .rules)) }))
+has-outcome c s S (offering f size) =
+    (_, _, offers {r = offeredAs (view c) f size} (record { outcome = refl; sound = sound-of _ (offered-keeps (view c) f size (sound-of-standing S .rules)) }))
+has-outcome c s S departing =
+    (_, _, departs {r = departedAs (view c)} (record { outcome = refl; sound = sound-of _ (departed-keeps (view c) (sound-of-standing S .rules)) }))
+has-outcome c s S (bursting n list) =
+    let singles = singles-exist n c s S in
+    (_, _, bursts {r = countedAs (burst (view c) n list)}
+    (record { outcome = refl; written = refl; sound = sound-of _ (burst-keeps (view c) n list (sound-of-standing S .rules)) }) (singles .2))

@@ -12,12 +12,13 @@ use Rattle.model.proofs.Following.{Follows}
 use Rattle.order.proofs.StateLaws.{seen-as, sound-of}
 use Rattle.store.specs.Calls.{AfterOffer, AfterDeparture, storeOffer, storeDepart}
 use Rattle.store.specs.Promised.{schedulerOf, SoundSite, siteOf, answeredAs, departedAs, NewGives, OfferGives, DepartGives}
-use Rattle.store.specs.StoreCalls.{StoreCall, WithStore, lent, back, Packet, putOut, does, storeCalls}
+use Rattle.store.specs.StoreCalls.{StoreCall, resetting, opening, offering, departing, WithStore, lent, back, Packet, putOut, does, storeCalls}
 use Rattle.store.specs.Runs.{Does, resets, opens, offers, departs}
 use Rattle.store.specs.declared.Site.{Site}
 use Rattle.store.specs.declared.SiteAnswered.{SiteAnswered}
 use Rattle.store.specs.declared.SiteDeparted.{SiteDeparted}
 use Rattle.store.proofs.CallLaws.{offer-keeps, depart-keeps}
+use Rattle.store.proofs.SiteLaws.{rules-of-site}
 
 -- A site stands for a scheduler that keeps the rules, and the stores are the same.
 pub record Stands (s : WithStore Site) (m : WithStore Scheduler) : Type 0 where
@@ -93,3 +94,17 @@ follows s m call t e S (departs {n} {out} {after} {r} g) =
           };
       seen-same = ap₂ (λ (a : SiteDeparted) (l : List ℕ). seenDeparting (ofReply (a .reply)) out l (putOut (a .reply) l)) (there .0) (there .1);
     }
+
+-- ---- every call has an outcome
+
+pub has-outcome : (s : WithStore Site) (m : WithStore Scheduler) → Stands s m → (call : StoreCall) → (t : WithStore Site) × (e : Seen Packet Packet) × Does s call t e
+unfolding answeredAs departedAs siteOf
+has-outcome s m S resetting = (_, _, resets {r = siteOf newScheduler} (record { outcome = refl; sound = sound-of newScheduler new-keeps }))
+has-outcome s m S (opening f weight) =
+    (_, _, opens {r = answeredAs _ _} (record { outcome = refl; sound = sound-of _ (opened-keeps (schedulerOf (s .keeper)) f weight (rules-of-site (s .keeper) (sound-of-standing S))) }))
+has-outcome s m S (offering f packet n) =
+    (_, _, offers {n = n} {r = answeredAs _ _}
+    (record { outcome = refl; stored = refl; sound = sound-of _ (offer-keeps (schedulerOf (s .keeper)) f packet (lent n (s .store)) (rules-of-site (s .keeper) (sound-of-standing S))) }))
+has-outcome s m S (departing n out) =
+    (_, _, departs {n = n} {r = departedAs _ _}
+    (record { outcome = refl; sent = refl; sound = sound-of _ (depart-keeps (schedulerOf (s .keeper)) (lent n (s .store)) out (rules-of-site (s .keeper) (sound-of-standing S))) }))
