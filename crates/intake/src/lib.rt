@@ -1,4 +1,4 @@
-// Reads a file to its end. Unlike `io::read_full` it tells an end from a failed read, so that no program takes a part for the whole.
+// Reads a file to its end. Unlike `io::read_full` it knows an end from a failed read, so that no program takes a part for the whole.
 ghost use Rattle.intake.specs.Intake.{Within};
 
 // The bytes that were read lie at the start of a buffer, so many.

@@ -10,8 +10,8 @@ use borrow.Author.Tests.{lt-ltb, lt-leb}
 use Rattle.lines.specs.Number.{largest, stands, digitAt, numberAt}
 use Rattle.lines.specs.Line.{pastWord, fieldAt, pairAt}
 use Rattle.lines.specs.Written.{decimal, Spans}
-use Rattle.lines.specs.declared.Place.{Place}
-use Rattle.lines.specs.declared.Place.the-variants.{At, Nowhere}
+use Rattle.lines.specs.declared.Past.{Past}
+use Rattle.lines.specs.declared.Past.the-variants.{At, Nowhere}
 use Rattle.lines.specs.declared.Number.{Number}
 use Rattle.lines.specs.declared.Number.the-variants.{Of, NoNumber}
 use Rattle.lines.specs.declared.Pair.{Pair}
@@ -37,7 +37,7 @@ module _ (s : List ℕ) where
   text-is-word at (byte ∷ word) p = word-begun at byte word (first-stands s at byte word p) ∙ text-is-word (at + 1) word (spans-rest s at (byte ∷ []) word p)
 
   -- what an answer claims: the word stands up to the place that it gives
-  abbrev pub WordTo : ℕ → List ℕ → Place → Type 0
+  abbrev pub WordTo : ℕ → List ℕ → Past → Type 0
   WordTo at word (At past) = Spans s at word past
   WordTo at word Nowhere = Unit {0}
 
@@ -46,7 +46,7 @@ module _ (s : List ℕ) where
   word-claims at [] = spans-nothing s at
   word-claims at (byte ∷ word) = begins (stands s at byte) refl (pastWord s (at + 1) word) (word-claims (at + 1) word)
     where
-      begins : (b : Bool) → stands s at byte ≡ b → (rest : Place) → WordTo (at + 1) word rest → WordTo at (byte ∷ word) (cond b rest Nowhere)
+      begins : (b : Bool) → stands s at byte ≡ b → (rest : Past) → WordTo (at + 1) word rest → WordTo at (byte ∷ word) (cond b rest Nowhere)
       begins true e (At past) p = spans-join s at (byte ∷ []) word (stands-spans s at byte e) p
       begins true e Nowhere p = tt
       begins false e rest p = tt
@@ -74,7 +74,7 @@ module _ (s : List ℕ) where
   pub field-claims : (at : ℕ) (word : List ℕ) → Claims s at (λ n. word ++ decimal n) (fieldAt s at word)
   field-claims at word = by-answer (pastWord s at word) refl (word-claims at word)
     where
-      by-answer : (p : Place) → pastWord s at word ≡ p → WordTo at word p → Claims s at (λ n. word ++ decimal n) (fieldAt s at word)
+      by-answer : (p : Past) → pastWord s at word ≡ p → WordTo at word p → Claims s at (λ n. word ++ decimal n) (fieldAt s at word)
       by-answer (At past) e w = rw (field-read s at word e) (claims-behind at word past w (numberAt s past) (number-claims s past))
       by-answer Nowhere e w = rw (field-without-word s at word e) tt
 

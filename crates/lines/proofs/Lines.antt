@@ -19,8 +19,8 @@ use Rattle.lines.specs.declared.Event.{Event}
 use Rattle.lines.specs.declared.Event.the-variants.{Flow, Arrive, Send}
 use Rattle.lines.specs.declared.Line.{Line}
 use Rattle.lines.specs.declared.Line.the-variants.{Read, Bad}
-use Rattle.lines.specs.declared.Place.{Place}
-use Rattle.lines.specs.declared.Place.the-variants.{At, Nowhere}
+use Rattle.lines.specs.declared.Past.{Past}
+use Rattle.lines.specs.declared.Past.the-variants.{At, Nowhere}
 use Rattle.lines.specs.declared.Number.{Number}
 use Rattle.lines.specs.declared.Number.the-variants.{Of, NoNumber}
 use Rattle.lines.specs.declared.Pair.{Pair}
@@ -57,41 +57,41 @@ module _ (s : List ℕ) (at : ℕ) where
   -- ---- what is read stands there
 
   -- what an answer claims: an event that a line can say, whose text stands up to the place that it gives
-  abbrev Tells : (Event → List ℕ) → Line → Type 0
-  Tells text (Read event past) = Sayable event × Spans s at (text event) past
-  Tells text Bad = Unit {0}
+  abbrev LineClaims : (Event → List ℕ) → Line → Type 0
+  LineClaims text (Read event past) = Sayable event × Spans s at (text event) past
+  LineClaims text Bad = Unit {0}
 
-  event-tells : Tells eventText (eventAt s at)
+  event-claims : LineClaims eventText (eventAt s at)
   unfolding eventText
-  event-tells = at-flow (pairAt s at (bytes "flow=") (bytes " weight=")) refl (pair-claims s at (bytes "flow=") (bytes " weight="))
+  event-claims = at-flow (pairAt s at (bytes "flow=") (bytes " weight=")) refl (pair-claims s at (bytes "flow=") (bytes " weight="))
     where
-      Told : Type 0
-      Told = Tells eventText (eventAt s at)
+      Claimed : Type 0
+      Claimed = LineClaims eventText (eventAt s at)
 
       at-send : pairAt s at (bytes "flow=") (bytes " weight=") ≡ NoPair → pairAt s at (bytes "arrive=") (bytes " size=") ≡ NoPair
-          → (k : Number) → fieldAt s at (bytes "send=") ≡ k → Claims s at (field "send=") k → Told
+          → (k : Number) → fieldAt s at (bytes "send=") ≡ k → Claims s at (field "send=") k → Claimed
       at-send no-flow no-arrival (Of count past) e c = rw (event-send s at no-flow no-arrival e) c
       at-send no-flow no-arrival NoNumber e c = rw (no-event s at no-flow no-arrival e) tt
 
       at-arrive : pairAt s at (bytes "flow=") (bytes " weight=") ≡ NoPair
-          → (k : Pair) → pairAt s at (bytes "arrive=") (bytes " size=") ≡ k → PairClaims s at (bytes "arrive=") (bytes " size=") k → Told
+          → (k : Pair) → pairAt s at (bytes "arrive=") (bytes " size=") ≡ k → PairClaims s at (bytes "arrive=") (bytes " size=") k → Claimed
       at-arrive no-flow (Both flow size past) e c = rw (event-arrive s at no-flow e) ((c .0, c .1), c .2)
       at-arrive no-flow NoPair e c = at-send no-flow e (fieldAt s at (bytes "send=")) refl (field-claims s at (bytes "send="))
 
-      at-flow : (k : Pair) → pairAt s at (bytes "flow=") (bytes " weight=") ≡ k → PairClaims s at (bytes "flow=") (bytes " weight=") k → Told
+      at-flow : (k : Pair) → pairAt s at (bytes "flow=") (bytes " weight=") ≡ k → PairClaims s at (bytes "flow=") (bytes " weight=") k → Claimed
       at-flow (Both flow weight past) e c = rw (event-flow s at e) ((c .0, c .1), c .2)
       at-flow NoPair e c = at-arrive e (pairAt s at (bytes "arrive=") (bytes " size=")) refl (pair-claims s at (bytes "arrive=") (bytes " size="))
 
-  line-tells : Tells written (lineAt s at)
+  line-claims : LineClaims written (lineAt s at)
   unfolding written
-  line-tells = by-event (eventAt s at) refl event-tells
+  line-claims = by-event (eventAt s at) refl event-claims
     where
-      by-feed : (event : Event) (past : ℕ) → eventAt s at ≡ Read event past → Tells eventText (Read event past)
-          → (k : Place) → pastWord s past (bytes "\n") ≡ k → WordTo s past (bytes "\n") k → Tells written (lineAt s at)
+      by-feed : (event : Event) (past : ℕ) → eventAt s at ≡ Read event past → LineClaims eventText (Read event past)
+          → (k : Past) → pastWord s past (bytes "\n") ≡ k → WordTo s past (bytes "\n") k → LineClaims written (lineAt s at)
       by-feed event past e c (At next) f w = rw (line-read s at e f) (c .0, spans-join s at (eventText event) (bytes "\n") (c .1) w)
       by-feed event past e c Nowhere f w = rw (line-without-feed s at e f) tt
 
-      by-event : (k : Line) → eventAt s at ≡ k → Tells eventText k → Tells written (lineAt s at)
+      by-event : (k : Line) → eventAt s at ≡ k → LineClaims eventText k → LineClaims written (lineAt s at)
       by-event (Read event past) e c = by-feed event past e c (pastWord s past (bytes "\n")) refl (word-claims s past (bytes "\n"))
       by-event Bad e c = rw (line-without-event s at e) tt
 
@@ -101,7 +101,7 @@ module _ (s : List ℕ) (at : ℕ) where
   reads-what-is-written event rest h e = text-is-line event h (spans-of-drop s at (written event) rest e)
 
   pub nothing-else-is-read : {event : Event} {next : ℕ} → lineAt s at ≡ Read event next → Sayable event × Spans s at (written event) next
-  nothing-else-is-read e = subst (Tells written) e line-tells
+  nothing-else-is-read e = subst (LineClaims written) e line-claims
 
   pub moves-on : {event : Event} {next : ℕ} → lineAt s at ≡ Read event next → (at < next) × (next ≤ length s)
   unfolding written

@@ -14,8 +14,8 @@ use Rattle.lines.specs.Number.{largest, mostDigits, stands, digitAt, dig
 use Rattle.lines.specs.Written.{digitByte, decimal, Spans}
 use Rattle.lines.specs.declared.Number.{Number}
 use Rattle.lines.specs.declared.Number.the-variants.{Of, NoNumber}
-use Rattle.lines.specs.declared.Run.{Run}
-use Rattle.lines.proofs.Steps.{digits-go-on, digits-end, no-digit-left, number-zero, number-of-run}
+use Rattle.lines.specs.declared.Digits.{Digits}
+use Rattle.lines.proofs.Steps.{digits-go-on, digits-end, no-digit-left, number-zero, number-of-digits}
 use Rattle.lines.proofs.Span.{spans-nothing, spans-join, spans-first, spans-rest, spans-byte, first-within, first-byte, first-stands, other-byte-not, stands-spans}
 use Rattle.lines.proofs.Decimal.{decimal-of-digit, decimal-and-digit, by-digits, decimal-length, decimal-begins}
 
@@ -64,9 +64,9 @@ number-read s at (suc m) {past} h p e =
     let q : Spans s at (b .0 ∷ b .1) past = rw (b .2) at p in
     let left : ℕ = mostDigits - length (decimal n) in
     let counted : mostDigits ≡ length (decimal n) + left = omega (arith, decimal-length n digitsBehind (omega arith)) in
-    let run : digitsFrom mostDigits 0 s at ≡ record { value = n; past = past } = rw counted (decimal-read s at n left p ∙ digits-end s past left n e) in
+    let digits : digitsFrom mostDigits 0 s at ≡ record { value = n; past = past } = rw counted (decimal-read s at n left p ∙ digits-end s past left n e) in
     let moved : (past ≡ at) → ⊥ = omega (arith, q .ends) in
-    number-of-run s at (other-byte-not s at (b .0) (b .1) q (code "0") (b .3 (omega arith))) (sym run) ∙ simp (ne-eqb past at moved, le-ltb largest n h)
+    number-of-digits s at (other-byte-not s at (b .0) (b .1) q (code "0") (b .3 (omega arith))) (sym digits) ∙ simp (ne-eqb past at moved, le-ltb largest n h)
 
 -- ---- what is read stands there
 
@@ -97,9 +97,9 @@ digit-is-byte s at {d} {past} e = by-tests (within && low && high) refl e
         let next : at + 1 ≡ past = cc in
         (omega arith, subst (Spans s at (digitByte d ∷ [])) next (spans-byte s at (ltb-true at (length s) (first .0)) (omega arith)))
 
--- a run says a number whose decimal is that of `value` with the run's text behind it
-abbrev Continues : List ℕ → ℕ → ℕ → Run → Type 0
-Continues s value at run = (text : List ℕ) × (decimal (run .value) ≡ decimal value ++ text) × Spans s at text (run .past)
+-- digits behind those of `value` say a number whose decimal is that of `value` with their text behind it
+abbrev Continues : List ℕ → ℕ → ℕ → Digits → Type 0
+Continues s value at digits = (text : List ℕ) × (decimal (digits .value) ≡ decimal value ++ text) × Spans s at text (digits .past)
 
 digits-continue : (s : List ℕ) (left value at : ℕ) → 0 < value → Continues s value at (digitsFrom left value s at)
 digits-continue s zero value at h = subst (Continues s value at) (sym (no-digit-left s at zero value (omega arith))) ([], sym (append-nil (decimal value)), spans-nothing s at)
@@ -117,16 +117,16 @@ not-zero-digit : (s : List ℕ) (at d : ℕ) {next : ℕ} → stands s at (code 
 not-zero-digit s at zero z p = absurd (true≢false (sym (first-stands s at (digitByte 0) [] p) ∙ z))
 not-zero-digit s at (suc d) z p = omega arith
 
-run-is-decimal : (s : List ℕ) (at left : ℕ) → stands s at (code "0") ≡ false → ((digitsFrom (suc left) 0 s at .past ≡ at) → ⊥)
+digits-are-decimal : (s : List ℕ) (at left : ℕ) → stands s at (code "0") ≡ false → ((digitsFrom (suc left) 0 s at .past ≡ at) → ⊥)
     → Spans s at (decimal (digitsFrom (suc left) 0 s at .value)) (digitsFrom (suc left) 0 s at .past)
-run-is-decimal s at left no-zero moved = by-answer (digitAt s at) refl
+digits-are-decimal s at left no-zero moved = by-answer (digitAt s at) refl
   where
     by-answer : (k : Number) → digitAt s at ≡ k → Spans s at (decimal (digitsFrom (suc left) 0 s at .value)) (digitsFrom (suc left) 0 s at .past)
-    by-answer NoNumber e = absurd (moved (ap (λ (r : Run). r .past) (digits-end s at (suc left) 0 e)))
+    by-answer NoNumber e = absurd (moved (ap (λ (r : Digits). r .past) (digits-end s at (suc left) 0 e)))
     by-answer (Of d next) e =
         let read = digit-is-byte s at e in
         let w = digits-continue s left d next (not-zero-digit s at d no-zero (read .1)) in
-        subst (λ (r : Run). Spans s at (decimal (r .value)) (r .past)) (sym (first-digit s at left e))
+        subst (λ (r : Digits). Spans s at (decimal (r .value)) (r .past)) (sym (first-digit s at left e))
         (rw (w .1, decimal-of-digit d (read .0)) (spans-join s at (digitByte d ∷ []) (w .0) (read .1) (w .2)))
 
 -- what an answer claims: a number that is not too large, whose text stands up to the place that it gives
@@ -137,15 +137,15 @@ Claims s at text NoNumber = Unit {0}
 pub number-claims : (s : List ℕ) (at : ℕ) → Claims s at decimal (numberAt s at)
 number-claims s at = begins (stands s at (code "0")) refl
   where
-    run : Run
-    run = digitsFrom mostDigits 0 s at
+    digits : Digits
+    digits = digitsFrom mostDigits 0 s at
 
-    within : stands s at (code "0") ≡ false → (none large : Bool) → eqb (run .past) at ≡ none → ltb largest (run .value) ≡ large
-        → Claims s at decimal (cond none NoNumber (cond large NoNumber (Of (run .value) (run .past))))
+    within : stands s at (code "0") ≡ false → (none large : Bool) → eqb (digits .past) at ≡ none → ltb largest (digits .value) ≡ large
+        → Claims s at decimal (cond none NoNumber (cond large NoNumber (Of (digits .value) (digits .past))))
     within z true large t u = tt
     within z false true t u = tt
-    within z false false t u = (ltb-false largest (run .value) u, run-is-decimal s at digitsBehind z (eqb-false (run .past) at t))
+    within z false false t u = (ltb-false largest (digits .value) u, digits-are-decimal s at digitsBehind z (eqb-false (digits .past) at t))
 
     begins : (zero-first : Bool) → stands s at (code "0") ≡ zero-first → Claims s at decimal (numberAt s at)
     begins true z = subst (Claims s at decimal) (sym (number-zero s at z)) (omega arith, rw (decimal-of-digit 0 (omega arith)) (stands-spans s at (code "0") z))
-    begins false z = subst (Claims s at decimal) (sym (number-of-run s at z refl)) (within z (eqb (run .past) at) (ltb largest (run .value)) refl refl)
+    begins false z = subst (Claims s at decimal) (sym (number-of-digits s at z refl)) (within z (eqb (digits .past) at) (ltb largest (digits .value)) refl refl)

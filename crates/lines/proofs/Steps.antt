@@ -19,10 +19,10 @@ use Rattle.lines.specs.Line.{pastWord, fieldAt, pairAt, eventAt, lineAt}
 use Rattle.lines.specs.declared.Event.{Event}
 use Rattle.lines.specs.declared.Event.the-variants.{Flow, Arrive, Send}
 use Rattle.lines.specs.declared.Line.the-variants.{Read, Bad}
-use Rattle.lines.specs.declared.Place.the-variants.{At, Nowhere}
+use Rattle.lines.specs.declared.Past.the-variants.{At, Nowhere}
 use Rattle.lines.specs.declared.Number.the-variants.{Of, NoNumber}
 use Rattle.lines.specs.declared.Pair.the-variants.{Both, NoPair}
-use Rattle.lines.specs.declared.Run.{Run}
+use Rattle.lines.specs.declared.Digits.{Digits}
 
 -- of a call's answer, what its contract says and what a match found
 pub alike : {A : Type 0} {answer a b : A} → answer ≡ a → answer ≡ b → a ≡ b
@@ -87,9 +87,9 @@ module _ (s : List ℕ) (at : ℕ) where
   unfolding numberAt
   number-zero e = rw (numberAt, e)
 
-  pub number-of-run : {run : Run} → stands s at (code "0") ≡ false → run ≡ digitsFrom mostDigits 0 s at → numberAt s at ≡ bounded run at
+  pub number-of-digits : {digits : Digits} → stands s at (code "0") ≡ false → digits ≡ digitsFrom mostDigits 0 s at → numberAt s at ≡ bounded digits at
   unfolding numberAt
-  number-of-run e r = rw (numberAt, e, r)
+  number-of-digits e r = rw (numberAt, e, r)
 
 -- ---- fields, events, lines
 

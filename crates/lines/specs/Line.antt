@@ -7,15 +7,15 @@ use Rattle.lines.specs.Number.{stands, numberAt}
 use Rattle.lines.specs.declared.Event.the-variants.{Flow, Arrive, Send}
 use Rattle.lines.specs.declared.Line.{Line}
 use Rattle.lines.specs.declared.Line.the-variants.{Read, Bad}
-use Rattle.lines.specs.declared.Place.{Place}
-use Rattle.lines.specs.declared.Place.the-variants.{At, Nowhere}
+use Rattle.lines.specs.declared.Past.{Past}
+use Rattle.lines.specs.declared.Past.the-variants.{At, Nowhere}
 use Rattle.lines.specs.declared.Number.{Number}
 use Rattle.lines.specs.declared.Number.the-variants.{Of, NoNumber}
 use Rattle.lines.specs.declared.Pair.{Pair}
 use Rattle.lines.specs.declared.Pair.the-variants.{Both, NoPair}
 
 -- the place just past a word
-unfoldable pub pastWord : List ℕ → ℕ → List ℕ → Place
+unfoldable pub pastWord : List ℕ → ℕ → List ℕ → Past
 pastWord s at [] = At at
 pastWord s at (byte ∷ word) = cond (stands s at byte) (pastWord s (at + 1) word) Nowhere
 

@@ -7,7 +7,7 @@ use lib.ListN.{length, getD}
 use lib.Dec.{ltb, leb, eqb}
 use Rattle.lines.specs.declared.Number.{Number}
 use Rattle.lines.specs.declared.Number.the-variants.{Of, NoNumber}
-use Rattle.lines.specs.declared.Run.{Run}
+use Rattle.lines.specs.declared.Digits.{Digits}
 
 abbrev pub largest : ℕ
 largest = 65_535
@@ -26,8 +26,8 @@ digitAt s at =
     (Of (getD s at 0 - code "0") (at + 1))
     NoNumber
 
--- a run of digits: those before this place say `value`, and at most so many more are read
-unfoldable pub digitsFrom : ℕ → ℕ → List ℕ → ℕ → Run
+-- the digits from a place on: those before this place say `value`, and at most so many more are read
+unfoldable pub digitsFrom : ℕ → ℕ → List ℕ → ℕ → Digits
 digitsFrom zero value s at = record { value = value; past = at }
 digitsFrom (suc left) value s at =
     elim (digitAt s at) [
@@ -35,9 +35,9 @@ digitsFrom (suc left) value s at =
       | NoNumber ↦ record { value = value; past = at }
     ]
 
--- what a run from this place says: it has one digit at least, and is not too large
-abbrev pub bounded : Run → ℕ → Number
-bounded run at = cond (eqb (run .past) at) NoNumber (cond (ltb largest (run .value)) NoNumber (Of (run .value) (run .past)))
+-- the number that the digits from this place say: there is one digit at least, and it is not too large
+abbrev pub bounded : Digits → ℕ → Number
+bounded digits at = cond (eqb (digits .past) at) NoNumber (cond (ltb largest (digits .value)) NoNumber (Of (digits .value) (digits .past)))
 
 -- A number that begins with 0 is 0 itself: what comes behind it is no part of it.
 unfoldable pub numberAt : List ℕ → ℕ → Number

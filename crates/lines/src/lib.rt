@@ -20,7 +20,7 @@ pub enum Line {
 }
 
 // The place just past a word.
-enum Place {
+enum Past {
     At(usize),
     Nowhere,
 }
@@ -37,8 +37,8 @@ enum Pair {
     NoPair,
 }
 
-// What a run of digits says, and the place just past it.
-struct Run {
+// What the digits from a place on say, and the place just past them.
+struct Digits {
     value: usize,
     past: usize,
 }
@@ -47,7 +47,7 @@ struct Run {
 const LARGEST: usize = 65_535;
 
 // The most digits that a number has.
-const DIGITS: usize = 5;
+const MOST_DIGITS: usize = 5;
 
 // The line at a place: an event and a line feed.
 pub fn line_at(input: &[u8], at: usize) -> Line
@@ -56,7 +56,7 @@ pub fn line_at(input: &[u8], at: usize) -> Line
     let Line::Read(event, past) = event_at(input, at) else {
         return Line::Bad;
     };
-    let Place::At(next) = past_word(input, past, b"\n") else {
+    let Past::At(next) = past_word(input, past, b"\n") else {
         return Line::Bad;
     };
     Line::Read(event, next)
@@ -95,26 +95,26 @@ fn pair_at(input: &[u8], at: usize, first: &[u8], second: &[u8]) -> Pair
 fn field_at(input: &[u8], at: usize, word: &[u8]) -> Number
     ensures { λ r. ⌜ r ≡ fieldAt (now (input .entry)) at (now (word .entry)) ⌝ }
 {
-    let Place::At(past) = past_word(input, at, word) else {
+    let Past::At(past) = past_word(input, at, word) else {
         return Number::NoNumber;
     };
     number_at(input, past)
 }
 
 // A word, byte by byte.
-fn past_word(input: &[u8], at: usize, word: &[u8]) -> Place
+fn past_word(input: &[u8], at: usize, word: &[u8]) -> Past
     ensures { λ r. ⌜ r ≡ pastWord (now (input .entry)) at (now (word .entry)) ⌝ }
 {
     let mut past = at;
     let mut i = 0;
     while i < word.len() {
         if !stands(input, past, word[i]) {
-            return Place::Nowhere;
+            return Past::Nowhere;
         }
         past += 1;
         i += 1;
     }
-    Place::At(past)
+    Past::At(past)
 }
 
 // A number that begins with 0 is 0 itself: no line goes on with a digit behind it.
@@ -124,9 +124,9 @@ fn number_at(input: &[u8], at: usize) -> Number
     if stands(input, at, b'0') {
         return Number::Of(0, at + 1);
     }
-    let run = digits_at(input, at);
-    let value = run.value;
-    let past = run.past;
+    let digits = digits_at(input, at);
+    let value = digits.value;
+    let past = digits.past;
     if past == at {
         return Number::NoNumber;
     }
@@ -137,21 +137,21 @@ fn number_at(input: &[u8], at: usize) -> Number
 }
 
 // The digits at a place: as many as stand there, and at most as many as a number may have.
-fn digits_at(input: &[u8], at: usize) -> Run
+fn digits_at(input: &[u8], at: usize) -> Digits
     ensures { λ r. ⌜ r ≡ digitsFrom mostDigits 0 (now (input .entry)) at ⌝ }
 {
     let mut value = 0;
     let mut past = at;
-    let mut left = DIGITS;
+    let mut left = MOST_DIGITS;
     while 0 < left {
         let Number::Of(digit, next) = digit_at(input, past) else {
-            return Run { value, past };
+            return Digits { value, past };
         };
         value = value * 10 + digit;
         past = next;
         left -= 1;
     }
-    Run { value, past }
+    Digits { value, past }
 }
 
 // One digit, as the number that it says.

@@ -39,29 +39,29 @@ as-event : (c : Course) (line : ℕ) {before after : List ℕ} {next : Course} (
     → Goes c before (happening (replayOf c) line known) next after → Goes c before (happening (replayOf c) line event) next after
 as-event c line {before} {after} {next} event known e g = subst (λ (x : Event). Goes c before (happening (replayOf c) line x) next after) (sym e) g
 
--- The page once an answer is told.
-abbrev Tells : Course → ℕ → List ℕ → List ℕ → ℕ → Answer → Type 0
-Tells c line before after past answer = page after past ≡ put (page before (c .past)) (textOf (refusal answer line))
+-- The page once an answer is printed.
+abbrev Prints : Course → ℕ → List ℕ → List ℕ → ℕ → Answer → Type 0
+Prints c line before after past answer = page after past ≡ put (page before (c .past)) (textOf (refusal answer line))
 
 module _ (c : Course) (S : Sound (c .state)) (line : ℕ) {before after : List ℕ} {past : ℕ} where
-  answer-goes : (s : State) (answer : Answer) → Tells c line before after past answer → (o : Outcome Answer) → answer ≡ o .reply → view s ≡ o .state → Sound s
+  answer-goes : (s : State) (answer : Answer) → Prints c line before after past answer → (o : Outcome Answer) → answer ≡ o .reply → view s ≡ o .state → Sound s
       → Goes c before (answered (replayOf c) line o) (record { state = s; sent = c .sent; past = past }) after
   unfolding answered replayOf
   answer-goes s answer e o a v sound =
       record {
-        told = e ∙ ap (λ (x : Answer). put (page before (c .past)) (textOf (refusal x line))) a;
+        prints = e ∙ ap (λ (x : Answer). put (page before (c .past)) (textOf (refusal x line))) a;
         arrives = ap (λ (m : Scheduler). replay m (c .sent)) v;
         sound = sound;
       }
 
-  pub open-goes : (r : Answered) → Tells c line before after past (r .answer) → (event : Event) (f weight : ℕ) → event ≡ Flow f weight → OpenGives (c .state) f weight r
+  pub open-goes : (r : Answered) → Prints c line before after past (r .answer) → (event : Event) (f weight : ℕ) → event ≡ Flow f weight → OpenGives (c .state) f weight r
       → Goes c before (happening (replayOf c) line event) (record { state = r .state; sent = c .sent; past = past }) after
   unfolding happening replayOf answeredAs
   open-goes r e event f weight i g =
       as-event c line event (Flow f weight) i
       (answer-goes (r .state) (r .answer) e (opened (view (c .state)) f weight) (ap (λ (a : Answered). a .answer) (g .outcome)) (open-seen S g) (g .sound))
 
-  pub offer-goes : (r : Placed) → Tells c line before after past (r .answer) → (event : Event) (f size : ℕ) → event ≡ Arrive f size → OfferGives (c .state) f size r
+  pub offer-goes : (r : Placed) → Prints c line before after past (r .answer) → (event : Event) (f size : ℕ) → event ≡ Arrive f size → OfferGives (c .state) f size r
       → Goes c before (happening (replayOf c) line event) (record { state = r .state; sent = c .sent; past = past }) after
   unfolding happening replayOf offeredAs
   offer-goes r e event f size i g =
@@ -74,7 +74,7 @@ module _ (c : Course) (S : Sound (c .state)) (line : ℕ) {before after : List �
 pub record Sends (goal : Page) (end : Replay) (out : List ℕ) (s : State) (n past left : ℕ) : Type 0 where
   pub sound : Sound s
   pub fits : n + left < 2 ^ 64
-  pub told : put (page out past) (textOf (sending (replay (view s) n) left .reports)) ≡ goal
+  pub prints : put (page out past) (textOf (sending (replay (view s) n) left .reports)) ≡ goal
   pub arrives : sending (replay (view s) n) left .after ≡ end
 
 module _ {goal : Page} {end : Replay} {out : List ℕ} {s : State} {n past left : ℕ} (h : Sends goal end out s n past left) where
@@ -82,7 +82,7 @@ module _ {goal : Page} {end : Replay} {out : List ℕ} {s : State} {n past left 
   unfolding put textOf
   sends-none z =
       let none : sending (replay (view s) n) left ≡ record { after = replay (view s) n; reports = [] } = ap (sending (replay (view s) n)) zero-left ∙ sending-none (view s) n in
-      (ap (λ (x : Happening). put (page out past) (textOf (x .reports))) (sym none) ∙ h .told, ap (λ (x : Happening). x .after) (sym none) ∙ h .arrives)
+      (ap (λ (x : Happening). put (page out past) (textOf (x .reports))) (sym none) ∙ h .prints, ap (λ (x : Happening). x .after) (sym none) ∙ h .arrives)
     where
       zero-left : left ≡ 0
       zero-left = omega arith
@@ -98,11 +98,11 @@ module _ {goal : Page} {end : Replay} {out : List ℕ} {s : State} {n past left 
         record {
           sound = g .sound;
           fits = omega (arith, h .fits);
-          told =
+          prints =
               ap₂ (λ (p : Page) (m : Scheduler). put p (textOf (sending (replay m (n + 1)) (left - 1) .reports))) f (depart-seen (h .sound) g)
               ∙ sym (put-append (page out past) (lineOf (sent (n + 1) d)) (textOf (sending (replay (departed (view s) .state) (n + 1)) (left - 1) .reports)))
               ∙ ap (λ (x : Happening). put (page out past) (textOf (x .reports))) (sym on)
-              ∙ h .told;
+              ∙ h .prints;
           arrives = ap (λ (m : Scheduler). sending (replay m (n + 1)) (left - 1) .after) (depart-seen (h .sound) g) ∙ ap (λ (x : Happening). x .after) (sym on) ∙ h .arrives;
         }
       where
@@ -115,7 +115,7 @@ module _ {goal : Page} {end : Replay} {out : List ℕ} {s : State} {n past left 
     pub sends-idle : {after : List ℕ} {next : ℕ} → OneOf (1 ∷ 2 ∷ []) (tagOf the-type (r .reply)) → page after next ≡ put (page out past) (lineOf (idle n))
         → (page after next ≡ goal) × (replay (view (r .state)) n ≡ end)
     sends-idle k f = (
-      f ∙ ap (put (page out past)) (sym (text-of-one (idle n))) ∙ ap (λ (x : Happening). put (page out past) (textOf (x .reports))) (sym stops) ∙ h .told,
+      f ∙ ap (put (page out past)) (sym (text-of-one (idle n))) ∙ ap (λ (x : Happening). put (page out past) (textOf (x .reports))) (sym stops) ∙ h .prints,
       ap (λ (m : Scheduler). replay m n) (depart-seen (h .sound) g) ∙ ap (λ (x : Happening). x .after) (sym stops) ∙ h .arrives,
     )
       where
@@ -133,12 +133,12 @@ module _ (c : Course) (S : Sound (c .state)) (count : ℕ) (before : List ℕ) w
   sendEnd = sending (replay (view (c .state)) (c .sent)) count .after
 
   pub sends-begin : c .sent + count < 2 ^ 64 → Sends sendGoal sendEnd before (c .state) (c .sent) (c .past) count
-  sends-begin f = record { sound = S; fits = f; told = refl; arrives = refl }
+  sends-begin f = record { sound = S; fits = f; prints = refl; arrives = refl }
 
   pub send-goes : (next : Course) (after : List ℕ) → Sound (next .state) → (page after (next .past) ≡ sendGoal) × (replay (view (next .state)) (next .sent) ≡ sendEnd)
       → Goes c before (sending (replayOf c) count) next after
   unfolding replayOf
-  send-goes next after sound e = record { told = e .0; arrives = e .1; sound = sound }
+  send-goes next after sound e = record { prints = e .0; arrives = e .1; sound = sound }
 
   pub send-happens : (line : ℕ) (event : Event) {next : Course} {after : List ℕ} → event ≡ Send count → Goes c before (sending (replayOf c) count) next after
       → Goes c before (happening (replayOf c) line event) next after

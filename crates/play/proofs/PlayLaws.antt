@@ -39,9 +39,9 @@ pub short-enough : (input : List ℕ) → length input ≤ inputLimit → transc
 unfolding transcript reportsOf
 short-enough input h = ap (λ (t : Bool). textOf (cond t (bad 0 ∷ []) (story newReplay 1 (scriptOf input)))) (le-ltb inputLimit (length input) h)
 
-pub too-long-told : (input before after : List ℕ) (past : ℕ) → inputLimit < length input → page after past ≡ put (page before 0) (lineOf (bad 0))
+pub too-long-printed : (input before after : List ℕ) (past : ℕ) → inputLimit < length input → page after past ≡ put (page before 0) (lineOf (bad 0))
     → page after past ≡ put (page before 0) (transcript input)
-too-long-told input before after past h e = e ∙ ap (put (page before 0)) (sym (too-long input h))
+too-long-printed input before after past h e = e ∙ ap (put (page before 0)) (sym (too-long input h))
 
 -- ---- the loop
 
@@ -51,7 +51,7 @@ pub record Plays (goal : Page) (input out : List ℕ) (c : Course) (at line : �
   pub place : at ≤ length input
   pub line-small : line ≤ at + 1
   pub sent-small : c .sent ≤ at * largest
-  pub told : put (page out (c .past)) (textOf (story (replayOf c) line (rest input at))) ≡ goal
+  pub prints : put (page out (c .past)) (textOf (story (replayOf c) line (rest input at))) ≡ goal
 
 pub plays-begin : (input out : List ℕ) (s : State) → length input ≤ inputLimit → NewGives s
     → Plays (put (page out 0) (transcript input)) input out (record { state = s; sent = 0; past = 0 }) 0 1
@@ -62,7 +62,7 @@ plays-begin input out s short g =
       place = omega arith;
       line-small = omega arith;
       sent-small = omega arith;
-      told =
+      prints =
           ap₂ (λ (m : Scheduler) (n : ℕ). put (page out 0) (textOf (story (replay m 0) 1 (scriptFrom n input 0)))) (seen-as new-keeps (g .outcome)) all
           ∙ ap (put (page out 0)) (sym (short-enough input short));
     }
@@ -78,7 +78,7 @@ asked-at-most (Send count) h = h
 module _ {goal : Page} {input out : List ℕ} {c : Course} {at line : ℕ} (h : Plays goal input out c at line) where
   pub plays-end : length input ≤ at → page out (c .past) ≡ goal
   unfolding story textOf put
-  plays-end e = ap (λ (s : Script). put (page out (c .past)) (textOf (story (replayOf c) line s))) (sym (ends input (length input - at) at e)) ∙ h .told
+  plays-end e = ap (λ (s : Script). put (page out (c .past)) (textOf (story (replayOf c) line s))) (sym (ends input (length input - at) at e)) ∙ h .prints
 
   module _ (within : at < length input) where
     pub plays-bad : {after : List ℕ} {past : ℕ} → lineAt input at ≡ Bad → page after past ≡ put (page out (c .past)) (lineOf (bad line)) → page after past ≡ goal
@@ -87,7 +87,7 @@ module _ {goal : Page} {input out : List ℕ} {c : Course} {at line : ℕ} (h : 
         f
         ∙ ap (put (page out (c .past))) (sym (text-of-one (bad line)))
         ∙ ap (λ (s : Script). put (page out (c .past)) (textOf (story (replayOf c) line s))) (sym (rest-spoils input at within e))
-        ∙ h .told
+        ∙ h .prints
 
     module _ {event : Event} {next : ℕ} (e : lineAt input at ≡ Read event next) (short : length input ≤ inputLimit) where
       pub less-left : length input - next < length input - at
@@ -107,12 +107,12 @@ module _ {goal : Page} {input out : List ℕ} {c : Course} {at line : ℕ} (h : 
             place = on .1;
             line-small = omega (arith, on .0, h .line-small);
             sent-small = few;
-            told =
-                ap₂ (λ (p : Page) (r : Replay). put p (textOf (story r (line + 1) (rest input next)))) (g .told) (g .arrives)
+            prints =
+                ap₂ (λ (p : Page) (r : Replay). put p (textOf (story r (line + 1) (rest input next)))) (g .prints) (g .arrives)
                 ∙ sym (put-append (page out (c .past)) (textOf (x .reports)) (textOf (story (x .after) (line + 1) (rest input next))))
                 ∙ ap (put (page out (c .past))) (sym (text-append (x .reports) (story (x .after) (line + 1) (rest input next))))
                 ∙ ap (λ (s : Script). put (page out (c .past)) (textOf (story (replayOf c) line s))) (sym (rest-reads input at within e))
-                ∙ h .told;
+                ∙ h .prints;
           }
         where
           on : (at < next) × (next ≤ length input)

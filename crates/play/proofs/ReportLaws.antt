@@ -10,25 +10,25 @@ use Rattle.play.specs.Story.{bad, refused, sent, idle}
 use Rattle.play.specs.Transcript.{replyText, lineOf}
 
 module _ (p : Page) where
-  pub bad-told : {q r : Page} (line : ℕ) → q ≡ put p (field "bad=" line) → r ≡ put q (bytes "\n") → r ≡ put p (lineOf (bad line))
+  pub bad-printed : {q r : Page} (line : ℕ) → q ≡ put p (field "bad=" line) → r ≡ put q (bytes "\n") → r ≡ put p (lineOf (bad line))
   unfolding lineOf
-  bad-told line a b = put-behind p (field "bad=" line) (bytes "\n") a b
+  bad-printed line a b = put-behind p (field "bad=" line) (bytes "\n") a b
 
-  pub idle-told : {q r : Page} (n : ℕ) → q ≡ put p (field "idle=" n) → r ≡ put q (bytes "\n") → r ≡ put p (lineOf (idle n))
+  pub idle-printed : {q r : Page} (n : ℕ) → q ≡ put p (field "idle=" n) → r ≡ put q (bytes "\n") → r ≡ put p (lineOf (idle n))
   unfolding lineOf
-  idle-told n a b = put-behind p (field "idle=" n) (bytes "\n") a b
+  idle-printed n a b = put-behind p (field "idle=" n) (bytes "\n") a b
 
-  pub refused-told : {q r s : Page} (k line : ℕ) → q ≡ put p (field "refused=" k) → r ≡ put q (field " line=" line) → s ≡ put r (bytes "\n") → s ≡ put p (lineOf (refused k line))
+  pub refused-printed : {q r s : Page} (k line : ℕ) → q ≡ put p (field "refused=" k) → r ≡ put q (field " line=" line) → s ≡ put r (bytes "\n") → s ≡ put p (lineOf (refused k line))
   unfolding lineOf
-  refused-told k line a b c = put-behind p _ (bytes "\n") (put-behind p (field "refused=" k) (field " line=" line) a b) c
+  refused-printed k line a b c = put-behind p _ (bytes "\n") (put-behind p (field "refused=" k) (field " line=" line) a b) c
 
-  pub reply-told : {q r s t : Page} (d : Sent)
+  pub reply-printed : {q r s t : Page} (d : Sent)
       → q ≡ put p (field " flow=" (d .flow)) → r ≡ put q (field " size=" (d .size)) → s ≡ put r (field " mark=" (d .mark)) → t ≡ put s (field " allow=" (d .allowance))
       → t ≡ put p (replyText d)
   unfolding replyText
-  reply-told d a b c e =
+  reply-printed d a b c e =
       put-behind p _ (field " allow=" (d .allowance)) (put-behind p _ (field " mark=" (d .mark)) (put-behind p (field " flow=" (d .flow)) (field " size=" (d .size)) a b) c) e
 
-  pub sent-told : {q r s : Page} (n : ℕ) (d : Sent) → q ≡ put p (field "sent=" n) → r ≡ put q (replyText d) → s ≡ put r (bytes "\n") → s ≡ put p (lineOf (sent n d))
+  pub sent-printed : {q r s : Page} (n : ℕ) (d : Sent) → q ≡ put p (field "sent=" n) → r ≡ put q (replyText d) → s ≡ put r (bytes "\n") → s ≡ put p (lineOf (sent n d))
   unfolding lineOf
-  sent-told n d a b c = put-behind p _ (bytes "\n") (put-behind p (field "sent=" n) (replyText d) a b) c
+  sent-printed n d a b c = put-behind p _ (bytes "\n") (put-behind p (field "sent=" n) (replyText d) a b) c

@@ -1,4 +1,4 @@
--- What is told of an event, and what it makes of a replay, step by step.
+-- What is reported of an event, and what it makes of a replay, step by step.
 use Prim.Native.Nat.{ℕ, zero, suc, _+_, _≤_}
 use native.Mathlib.Omega.{arith}
 use mathlib.Core.Bool.{Bool, cond}
@@ -38,12 +38,12 @@ text-of-one r = append-nil (lineOf r)
 
 -- ---- an answer
 
-pub nothing-told : (p : Page) (answer : Answer) (line : ℕ) → answer ≡ Done → p ≡ put p (textOf (refusal answer line))
+pub nothing-printed : (p : Page) (answer : Answer) (line : ℕ) → answer ≡ Done → p ≡ put p (textOf (refusal answer line))
 unfolding put textOf
-nothing-told p answer line e = ap (λ (a : Answer). put p (textOf (refusal a line))) (sym e)
+nothing-printed p answer line e = ap (λ (a : Answer). put p (textOf (refusal a line))) (sym e)
 
-pub refusal-told : (p : Page) {q : Page} (answer : Answer) (k line : ℕ) → answer ≡ Refused k → q ≡ put p (lineOf (refused k line)) → q ≡ put p (textOf (refusal answer line))
-refusal-told p answer k line e f =
+pub refusal-printed : (p : Page) {q : Page} (answer : Answer) (k line : ℕ) → answer ≡ Refused k → q ≡ put p (lineOf (refused k line)) → q ≡ put p (textOf (refusal answer line))
+refusal-printed p answer k line e f =
     f ∙ ap (put p) (sym (text-of-one (refused k line)) ∙ ap (λ (a : Answer). textOf (refusal a line)) (sym e))
 
 -- ---- departures

@@ -20,8 +20,8 @@ asked (Flow flow weight) = 0
 asked (Arrive flow size) = 0
 asked (Send count) = count
 
--- From one course and buffer to the next: what happens is told behind what was told before.
+-- From one course and buffer to the next: what happens is printed behind what was printed before.
 pub record Goes (c : Course) (before : List ℕ) (h : Happening) (next : Course) (after : List ℕ) : Type 0 where
-  pub told : page after (next .past) ≡ put (page before (c .past)) (textOf (h .reports))
+  pub prints : page after (next .past) ≡ put (page before (c .past)) (textOf (h .reports))
   pub arrives : replayOf next ≡ h .after
   pub sound : Sound (next .state)

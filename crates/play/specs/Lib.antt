@@ -1,4 +1,4 @@
--- What the replay prints. Script (the events of an input), Story (what happens at each, and what is told of it) and Transcript (the printed text)
+-- What the replay prints. Script (the events of an input), Story (what happens at each, and what is reported of it) and Transcript (the printed text)
 -- are what a reader believes, with Worked, document 01's example; Course serves the contracts of the private functions.
 pub mod Script
 pub mod Story

@@ -1,4 +1,4 @@
--- What happens in a replay: each event is a call on the scheduler, and what is told of it.
+-- What happens in a replay: each event is a call on the scheduler, and what is reported of it.
 use Prim.Native.Nat.{ℕ, _+_}
 use mathlib.Core.Bool.{cond}
 use mathlib.Core.List.{List, [], _∷_, _++_}
@@ -13,7 +13,7 @@ use Rattle.lines.specs.declared.Event.{Event}
 use Rattle.lines.specs.declared.Event.the-variants.{Flow, Arrive, Send}
 use Rattle.play.specs.Script.{Script, ended, spoiled, _then_}
 
--- What a replay tells.
+-- What a replay reports.
 pub data Report : Type 0 where
   -- a line is none of the three: its number
   bad : ℕ → Report
@@ -32,12 +32,12 @@ pub record Replay : Type 0 where
 unfoldable pub newReplay : Replay
 newReplay = record { scheduler = newScheduler; departed = 0 }
 
--- What an event makes of a replay, and what is told of it.
+-- What an event makes of a replay, and what is reported of it.
 pub record Happening : Type 0 where
   pub after : Replay
   pub reports : List Report
 
--- A refused event is told, and the replay goes on; nothing is told of one that is done.
+-- A refused event is reported, and the replay goes on; nothing is reported of one that is done.
 abbrev pub refusal : Answer → ℕ → List Report
 refusal Done line = []
 refusal (Refused k) line = refused k line ∷ []
@@ -66,7 +66,7 @@ happening r line (Flow flow weight) = answered r line (opened (r .scheduler) flo
 happening r line (Arrive flow size) = answered r line (offered (r .scheduler) flow size)
 happening r line (Send count) = sending r count
 
--- What is told from a line on, which has this number. A line that is none of the three ends the replay.
+-- What is reported from a line on, which has this number. A line that is none of the three ends the replay.
 unfoldable pub story : Replay → ℕ → Script → List Report
 story r line ended = []
 story r line spoiled = bad line ∷ []

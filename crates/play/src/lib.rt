@@ -1,4 +1,4 @@
-// The replay of an input: each line's event is given to the scheduler, and what is told of it is printed into a buffer.
+// The replay of an input: each line's event is given to the scheduler, and what is reported of it is printed into a buffer.
 ghost use mathlib.Core.Path.{_≡_};
 ghost use Prim.Native.Nat.{_+_, _≤_, _<_, _^_};
 ghost use lib.ListN.{length};
@@ -72,7 +72,7 @@ fn run(out: &mut [u8], c: Course, event: Event, line: usize) -> Course
             let state = c.state;
             let answered = state.open(flow, weight);
             let answer = answered.answer;
-            let past = told(out, c.past, answer, line);
+            let past = answer_line(out, c.past, answer, line);
             let after = answered.state;
             Course {
                 state: after,
@@ -84,7 +84,7 @@ fn run(out: &mut [u8], c: Course, event: Event, line: usize) -> Course
             let state = c.state;
             let answered = state.offer(flow, size);
             let answer = answered.answer;
-            let past = told(out, c.past, answer, line);
+            let past = answer_line(out, c.past, answer, line);
             let after = answered.state;
             Course {
                 state: after,
@@ -96,8 +96,8 @@ fn run(out: &mut [u8], c: Course, event: Event, line: usize) -> Course
     }
 }
 
-// The answer to an event: only a refusal is told.
-fn told(out: &mut [u8], at: usize, answer: Answer, line: usize) -> usize
+// The line of an answer: only a refusal has one.
+fn answer_line(out: &mut [u8], at: usize, answer: Answer, line: usize) -> usize
     ensures { λ past. ⌜ page (now (out .exit)) past ≡ put (page (now (out .entry)) at) (textOf (refusal answer line)) ⌝ }
 {
     match answer {

@@ -1,4 +1,4 @@
-// The lines that tell of what happens, each put into a buffer from a place on. Each function answers with the place just past its line.
+// The lines that report what happens, each put into a buffer from a place on. Each function answers with the place just past its line.
 ghost use mathlib.Core.Path.{_≡_};
 ghost use Rattle.print.specs.Page.{page, put};
 ghost use Rattle.play.specs.Story.{bad, refused, sent, idle};
@@ -17,8 +17,8 @@ pub fn bad_line(out: &mut [u8], at: usize, line: usize) -> usize
 pub fn refused_line(out: &mut [u8], at: usize, refusal: usize, line: usize) -> usize
     ensures { λ past. ⌜ page (now (out .exit)) past ≡ put (page (now (out .entry)) at) (lineOf (refused refusal line)) ⌝ }
 {
-    let told = field(out, at, b"refused=", refusal);
-    let end = field(out, told, b" line=", line);
+    let numbered = field(out, at, b"refused=", refusal);
+    let end = field(out, numbered, b" line=", line);
     byte(out, end, b'\n')
 }
 

@@ -1,4 +1,4 @@
--- `lines::digits_at` meets its contract. The loop's invariant: the run of digits from `at` is what the run from `past` makes of `value`, with
+-- `lines::digits_at` meets its contract. The loop's invariant: the digits from `at` are what those from `past` make of `value`, with
 -- `left` digits left, and `value` has as many digits as were read. The measure is `left`.
 use mathlib.Core.Path.{_≡_, refl, sym, _∙_}
 use Prim.Native.Nat.{_≤_, _<_, _^_, _-_}

@@ -2,7 +2,7 @@
 use mathlib.Core.Path.{sym, _∙_}
 use borrow.Author.Needs.{needs}
 use borrow.Author.Tests.{eq-eqb, ne-eqb, lt-ltb, le-ltb}
-use Rattle.lines.proofs.Steps.{alike, next-place-fits, number-zero, number-of-run}
+use Rattle.lines.proofs.Steps.{alike, next-place-fits, number-zero, number-of-digits}
 use Rattle.lines.proofs.number_at.Statement.{statement}
 use Rattle.lines.proofs.number_at.Tie as tie
 
@@ -21,17 +21,17 @@ digits-at-requires c κs = search needs
 returns-2 : tie.Need-returns-2
 returns-2 c =
     let d = c .before in
-    sym (number-of-run _ _ (alike (d .before .before .stands .ensures) (d .before .if1 .left)) (d .digits-at .ensures) ∙ simp (eq-eqb _ _ (c .if2 .taken)))
+    sym (number-of-digits _ _ (alike (d .before .before .stands .ensures) (d .before .if1 .left)) (d .digits-at .ensures) ∙ simp (eq-eqb _ _ (c .if2 .taken)))
 
 returns-3 : tie.Need-returns-3
 returns-3 c =
     let d = c .before .before in
-    sym (number-of-run _ _ (alike (d .before .before .stands .ensures) (d .before .if1 .left)) (d .digits-at .ensures) ∙ simp (ne-eqb _ _ (c .before .if2 .left), lt-ltb _ _ (c .if3 .taken)))
+    sym (number-of-digits _ _ (alike (d .before .before .stands .ensures) (d .before .if1 .left)) (d .digits-at .ensures) ∙ simp (ne-eqb _ _ (c .before .if2 .left), lt-ltb _ _ (c .if3 .taken)))
 
 returns-4 : tie.Need-returns-4
 returns-4 c =
     let d = c .before .before in
-    sym (number-of-run _ _ (alike (d .before .before .stands .ensures) (d .before .if1 .left)) (d .digits-at .ensures) ∙ simp (ne-eqb _ _ (c .before .if2 .left), le-ltb _ _ (c .if3 .left)))
+    sym (number-of-digits _ _ (alike (d .before .before .stands .ensures) (d .before .if1 .left)) (d .digits-at .ensures) ∙ simp (ne-eqb _ _ (c .before .if2 .left), le-ltb _ _ (c .if3 .left)))
 
 pub number-at-spec : {M : Type 1} → statement M
 number-at-spec =

@@ -1,7 +1,7 @@
 -- `play::play` meets its contract: too long an input is one bad line, and any other is replayed.
 use borrow.Author.Needs.{needs}
 use Rattle.print.proofs.PageLaws.{printed}
-use Rattle.play.proofs.PlayLaws.{too-long-told}
+use Rattle.play.proofs.PlayLaws.{too-long-printed}
 use Rattle.play.proofs.play.Statement.{statement}
 use Rattle.play.proofs.play.Tie as tie
 
@@ -12,7 +12,7 @@ same-length : tie.Need-same-length
 same-length c = search needs
 
 returns : tie.Need-returns
-returns c = printed _ _ _ _ (too-long-told _ _ _ _ (c .before .before .before .before .if1 .taken) (c .before .before .bad-line .ensures))
+returns c = printed _ _ _ _ (too-long-printed _ _ _ _ (c .before .before .before .before .if1 .taken) (c .before .before .bad-line .ensures))
 
 replay-requires : tie.Need-replay-requires
 replay-requires c κs = search needs

@@ -10,8 +10,8 @@ enum-known-event c = search needs
 open-requires : tie.Need-open-requires
 open-requires c κs = search needs
 
-told-requires : tie.Need-told-requires
-told-requires c κs = search needs
+answer-line-requires : tie.Need-answer-line-requires
+answer-line-requires c κs = search needs
 
 enum-known-event-2 : tie.Need-enum-known-event-2
 enum-known-event-2 c = search needs
@@ -19,8 +19,8 @@ enum-known-event-2 c = search needs
 offer-requires : tie.Need-offer-requires
 offer-requires c κs = search needs
 
-told-requires-2 : tie.Need-told-requires-2
-told-requires-2 c κs = search needs
+answer-line-requires-2 : tie.Need-answer-line-requires-2
+answer-line-requires-2 c κs = search needs
 
 enum-known-event-3 : tie.Need-enum-known-event-3
 enum-known-event-3 c = search needs
@@ -39,8 +39,8 @@ returns c =
     let start = c .before .before .before .before .before .before .before .before .before .before .before in
     let event = c .before .before .before .before .before .before .before .before .event in
     let before = c .before .before .before .before .before in
-    let told = c .before .before .before .told in
-    open-goes _ (start .pre .0) _ _ (told .ensures) _ _ _ (event .given .1) (before .«open» .ensures)
+    let line = c .before .before .before .answer-line in
+    open-goes _ (start .pre .0) _ _ (line .ensures) _ _ _ (event .given .1) (before .«open» .ensures)
 
 same-length-2 : tie.Need-same-length-2
 same-length-2 c = search needs
@@ -50,8 +50,8 @@ returns-2 c =
     let start = c .before .before .before .before .before .before .before .before .before .before .before in
     let event2 = c .before .before .before .before .before .before .before .before .event2 in
     let offer = c .before .before .before .before .before .offer in
-    let told2 = c .before .before .before .told2 in
-    offer-goes _ (start .pre .0) _ _ (told2 .ensures) _ _ _ (event2 .given .1) (offer .ensures)
+    let line2 = c .before .before .before .answer-line2 in
+    offer-goes _ (start .pre .0) _ _ (line2 .ensures) _ _ _ (event2 .given .1) (offer .ensures)
 
 same-length-3 : tie.Need-same-length-3
 same-length-3 c = search needs
@@ -69,10 +69,10 @@ run-spec =
     (tie.spec
     enum-known-event
     open-requires
-    told-requires
+    answer-line-requires
     enum-known-event-2
     offer-requires
-    told-requires-2
+    answer-line-requires-2
     enum-known-event-3
     send-requires
     same-length

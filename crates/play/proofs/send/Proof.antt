@@ -37,7 +37,7 @@ returns c =
     send-goes _ (t .before .before .before .before .pre .0) _ _ _ _ (departs .sound) (sends-idle (t .before .loop .inv) (t .loop-test .taken) _ departs (c .before .before .before .before .match .keys2) (c .before .before .idle-line .ensures))
 
 same-length : tie.Need-same-length Inv-loop μ-loop
-same-length c = length-put _ _ _ _ _ (returns c .told)
+same-length c = length-put _ _ _ _ _ (returns c .prints)
 
 add-sent : tie.Need-add-sent Inv-loop μ-loop
 add-sent c = omega (arith, c .before .before .before .before .before .before .loop .inv .fits)
@@ -62,7 +62,7 @@ returns-2 c =
     send-goes _ (c .before .before .before .before .pre .0) _ _ _ _ (inv .sound) (sends-none inv (c .loop-test .left))
 
 same-length-2 : tie.Need-same-length-2 Inv-loop μ-loop
-same-length-2 c = length-put _ _ _ _ _ (returns-2 c .told)
+same-length-2 c = length-put _ _ _ _ _ (returns-2 c .prints)
 
 pub send-spec : {M : Type 1} → statement M
 send-spec =

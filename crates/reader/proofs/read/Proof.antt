@@ -51,9 +51,9 @@ abbrev spelt : (κs : Lfts 1) → Spells (typesAt (read.signature .params) κs)
 spelt κs = (slice-vals, (uint-vals w64, tt))
 
 -- what the three calls say, one after the other
-all-told : (input : RefT (List ℕ)) (at : ℕ) (made gone : Reader) (l : Line)
+all-said : (input : RefT (List ℕ)) (at : ℕ) (made gone : Reader) (l : Line)
     → (made .input ≡ input) × (made .at ≡ 0) → (gone .input ≡ made .input) × (gone .at ≡ at) → l ≡ lineAt (now (gone .input)) (gone .at) → l ≡ lineAt (now input) at
-all-told input at made gone l is-made is-gone is-next =
+all-said input at made gone l is-made is-gone is-next =
     is-next ∙ ap (λ (s : RefT (List ℕ)). lineAt (now s) (gone .at)) (is-gone .0 ∙ is-made .0) ∙ ap (lineAt (now input)) (is-gone .1)
 
 module _ {M : Type 1} (𝓤 : URA M) (H : Heap 𝓤) (𝓜 : Model 𝓤 H) (𝓖 : GhostRules 𝓤 H) (𝓡 : Running 𝓤 H 𝓜) where
@@ -97,7 +97,7 @@ module _ {M : Type 1} (𝓤 : URA M) (H : Heap 𝓤) (𝓜 : Model 𝓤 H) (𝓖
       gets ! refl (enum.lawful line.the-type line′.the-laws 𝓤 H (𝓖 .A) W tt .typed l _ is-line .0) $
       returns ! (look ! 0 refl) $ leave ! (code.function .locals) bs (_, (_, (_, (_, (_, tt))))) $
       by ! (answers W read.ended says ((κs, qs, bounds, a, passed), g) (line.the-row .own l (v ∷ [])) v l (id⊢ 𝓤 _) (tt, (tt, tt))
-      (factI 𝓤 _ (emp 𝓤) (all-told (a .0) (a .1 .0) made gone l is-made is-gone is-next)))))))
+      (factI 𝓤 _ (emp 𝓤) (all-said (a .0) (a .1 .0) made gone l is-made is-gone is-next)))))))
 
 pub read-spec : {M : Type 1} → statement M
 unfolding code.routine

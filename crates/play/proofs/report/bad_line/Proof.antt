@@ -1,6 +1,6 @@
 -- `play::report::bad_line` meets its contract.
 use borrow.Author.Needs.{needs}
-use Rattle.play.proofs.ReportLaws.{bad-told}
+use Rattle.play.proofs.ReportLaws.{bad-printed}
 use Rattle.play.proofs.report.bad_line.Statement.{statement}
 use Rattle.play.proofs.report.bad_line.Tie as tie
 
@@ -17,7 +17,7 @@ same-length : tie.Need-same-length
 same-length c = search needs
 
 returns : tie.Need-returns
-returns c = bad-told _ _ (c .before .before .before .before .before .before .field .ensures) (c .before .before .byte .ensures)
+returns c = bad-printed _ _ (c .before .before .before .before .before .before .field .ensures) (c .before .before .byte .ensures)
 
 pub bad-line-spec : {M : Type 1} → statement M
 bad-line-spec =

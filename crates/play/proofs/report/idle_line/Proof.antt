@@ -1,6 +1,6 @@
 -- `play::report::idle_line` meets its contract.
 use borrow.Author.Needs.{needs}
-use Rattle.play.proofs.ReportLaws.{idle-told}
+use Rattle.play.proofs.ReportLaws.{idle-printed}
 use Rattle.play.proofs.report.idle_line.Statement.{statement}
 use Rattle.play.proofs.report.idle_line.Tie as tie
 
@@ -17,7 +17,7 @@ same-length : tie.Need-same-length
 same-length c = search needs
 
 returns : tie.Need-returns
-returns c = idle-told _ _ (c .before .before .before .before .before .before .field .ensures) (c .before .before .byte .ensures)
+returns c = idle-printed _ _ (c .before .before .before .before .before .before .field .ensures) (c .before .before .byte .ensures)
 
 pub idle-line-spec : {M : Type 1} → statement M
 idle-line-spec =

@@ -1,6 +1,6 @@
 -- `play::report::refused_line` meets its contract.
 use borrow.Author.Needs.{needs}
-use Rattle.play.proofs.ReportLaws.{refused-told}
+use Rattle.play.proofs.ReportLaws.{refused-printed}
 use Rattle.play.proofs.report.refused_line.Statement.{statement}
 use Rattle.play.proofs.report.refused_line.Tie as tie
 
@@ -27,7 +27,7 @@ returns c =
     let field = c .before .before .before .before .before .before .before .before .before .before .before .field in
     let field2 = c .before .before .before .before .before .before .field2 in
     let byte = c .before .before .byte in
-    refused-told _ _ _ (field .ensures) (field2 .ensures) (byte .ensures)
+    refused-printed _ _ _ (field .ensures) (field2 .ensures) (byte .ensures)
 
 pub refused-line-spec : {M : Type 1} → statement M
 refused-line-spec =

@@ -1,6 +1,6 @@
 -- `play::report::reply` meets its contract: each field is put behind the one before it.
 use borrow.Author.Needs.{needs}
-use Rattle.play.proofs.ReportLaws.{reply-told}
+use Rattle.play.proofs.ReportLaws.{reply-printed}
 use Rattle.play.proofs.report.reply.Statement.{statement}
 use Rattle.play.proofs.report.reply.Tie as tie
 
@@ -47,7 +47,7 @@ returns : tie.Need-returns
 returns c =
     let mark = c .before .before .before .before .before .before .before .before in
     let size = mark .before .before .before .before .before .before in
-    reply-told _ _ (size .before .before .before .before .before .before .field .ensures) (size .field2 .ensures) (mark .field3 .ensures) (c .before .before .field4 .ensures)
+    reply-printed _ _ (size .before .before .before .before .before .before .field .ensures) (size .field2 .ensures) (mark .field3 .ensures) (c .before .before .field4 .ensures)
 
 pub reply-spec : {M : Type 1} → statement M
 reply-spec =

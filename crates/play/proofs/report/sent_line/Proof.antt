@@ -1,6 +1,6 @@
 -- `play::report::sent_line` meets its contract.
 use borrow.Author.Needs.{needs}
-use Rattle.play.proofs.ReportLaws.{sent-told}
+use Rattle.play.proofs.ReportLaws.{sent-printed}
 use Rattle.play.proofs.report.sent_line.Statement.{statement}
 use Rattle.play.proofs.report.sent_line.Tie as tie
 
@@ -24,7 +24,7 @@ returns c =
     let field = c .before .before .before .before .before .before .before .before .before .before .field in
     let reply = c .before .before .before .before .before .before .reply in
     let byte = c .before .before .byte in
-    sent-told _ _ _ (field .ensures) (reply .ensures) (byte .ensures)
+    sent-printed _ _ _ (field .ensures) (reply .ensures) (byte .ensures)
 
 pub sent-line-spec : {M : Type 1} → statement M
 sent-line-spec =

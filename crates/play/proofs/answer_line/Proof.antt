@@ -1,8 +1,8 @@
--- `play::told` meets its contract.
+-- `play::answer_line` meets its contract.
 use borrow.Author.Needs.{needs}
-use Rattle.play.proofs.StoryLaws.{nothing-told, refusal-told}
-use Rattle.play.proofs.told.Statement.{statement}
-use Rattle.play.proofs.told.Tie as tie
+use Rattle.play.proofs.StoryLaws.{nothing-printed, refusal-printed}
+use Rattle.play.proofs.answer_line.Statement.{statement}
+use Rattle.play.proofs.answer_line.Tie as tie
 
 enum-told : tie.Need-enum-told
 enum-told c = search needs
@@ -17,16 +17,16 @@ refused-line-requires : tie.Need-refused-line-requires
 refused-line-requires c κs = search needs
 
 returns : tie.Need-returns
-returns c = nothing-told _ _ _ (c .enum-told .given .1)
+returns c = nothing-printed _ _ _ (c .enum-told .given .1)
 
 same-length : tie.Need-same-length
 same-length c = search needs
 
 returns-2 : tie.Need-returns-2
-returns-2 c = refusal-told _ _ _ _ (c .before .before .before .before .before .answer .given .1) (c .before .before .refused-line .ensures)
+returns-2 c = refusal-printed _ _ _ _ (c .before .before .before .before .before .answer .given .1) (c .before .before .refused-line .ensures)
 
-pub told-spec : {M : Type 1} → statement M
-told-spec =
+pub answer-line-spec : {M : Type 1} → statement M
+answer-line-spec =
     tie.close
     (tie.spec
     enum-told
