@@ -2,15 +2,14 @@
 -- a departure's line by the line on which its packet arrived.
 --     transcript-fits    a buffer of four times the longest input holds every transcript
 --     nothing-left-off   so what `play` puts into such a buffer is the whole transcript
---     count-within       what `play` counts is within the buffer, so that a caller may lend it on
+--     count-within       what is printed lies within the buffer, so that a caller may lend it on
 use Prim.Native.Nat.{ℕ, zero, suc, _+_, _*_, _-_, _^_, _<_, _≤_}
 use native.Mathlib.Decide.{decLt}
 use native.Mathlib.Omega.{arith}
 use mathlib.Core.Bool.{Bool, true, false, cond, _||_}
 use mathlib.Core.List.{List, [], _∷_, _++_}
-use mathlib.Core.Path.{_≡_, refl, ap, ap₂, _∙_}
-use lib.ListN.{length, take, drop, length-append}
-use lib.Seq.{take-all, take-append-seam}
+use mathlib.Core.Path.{_≡_, refl, ap}
+use lib.ListN.{length, drop, length-append}
 use lib.Dec.{leb, ltb, eqb}
 use Rattle.model.specs.Limits.{flowLimit, weightLimit, sizeLimit, queueLimit}
 use Rattle.model.specs.Model.{Flow, Scheduler, flowAt, newScheduler}
@@ -31,7 +30,8 @@ use Rattle.lines.specs.declared.Line.{Line}
 use Rattle.lines.specs.declared.Line.the-variants.{Read, Bad}
 use Rattle.lines.proofs.Decimal.{decimal-length, decimal-begins}
 use Rattle.lines.proofs.Lines.{nothing-else-is-read, moves-on}
-use Rattle.print.specs.Page.{Printed}
+use Rattle.print.specs.Page.{Printed, PrintedWhole}
+use Rattle.print.proofs.PageLaws.{printed-whole}
 use Rattle.play.specs.Script.{Script, scriptFrom, scriptOf}
 use Rattle.play.specs.Story.{Report, bad, refused, sent, idle, Replay, Happening, newReplay, answered, numbered, departing, sending, happening, story}
 use Rattle.play.specs.Transcript.{inputLimit, outputLimit, replyText, lineOf, textOf, transcript}
@@ -297,16 +297,8 @@ transcript-length input =
 pub transcript-fits : (input : List ℕ) → length (transcript input) ≤ outputLimit
 transcript-fits input = omega (arith, transcript-length input)
 
-pub nothing-left-off : (input before after : List ℕ) (count : ℕ) → outputLimit ≤ length before → Printed (transcript input) before after count → take count after ≡ transcript input
-nothing-left-off input before after count room p =
-    ap₂ take all (p .written ∙ ap (λ (l : List ℕ). l ++ drop (length text) before) (take-all (length before) text (omega (arith, transcript-fits input))))
-    ∙ take-append-seam text (drop (length text) before)
-  where
-    text : List ℕ
-    text = transcript input
+pub nothing-left-off : (input : List ℕ) {before after : List ℕ} {count : ℕ} → outputLimit ≤ length before → Printed (transcript input) before after count → PrintedWhole (transcript input) before after count
+nothing-left-off input room p = printed-whole (omega (arith, transcript-fits input)) p
 
-    all : count ≡ length text
-    all = omega (arith, p .counted, transcript-fits input)
-
-pub count-within : {text before after : List ℕ} {count : ℕ} → Printed text before after count → length after ≡ length before → count ≤ length after
-count-within p e = omega (arith, p .counted)
+pub count-within : {text before after : List ℕ} {count : ℕ} → PrintedWhole text before after count → count ≤ length after
+count-within {text} {before} p = omega (arith, p .counted, ap length (p .written), length-append text (drop (length text) before))

@@ -4,9 +4,9 @@ ghost use Prim.Native.Nat.{_+_, _≤_, _<_, _^_};
 ghost use lib.ListN.{length};
 ghost use Rattle.order.specs.Encoding.{Sound};
 ghost use Rattle.play.specs.Course.{replayOf, asked, Goes};
-ghost use Rattle.print.specs.Page.{page, put, Printed};
+ghost use Rattle.print.specs.Page.{page, put, Printed, PrintedWhole};
 ghost use Rattle.play.specs.Story.{refusal, sending, happening};
-ghost use Rattle.play.specs.Transcript.{inputLimit, textOf, transcript};
+ghost use Rattle.play.specs.Transcript.{inputLimit, outputLimit, textOf, transcript};
 use lines::Event;
 use lines::Line;
 use model::Answer;
@@ -17,7 +17,7 @@ mod report;
 
 // An input has at most 65,536 bytes.
 pub const INPUT_LIMIT: usize = 65_536;
-// A buffer of so many bytes holds the transcript of any input, as the theorem `transcript-fits` says.
+// A buffer of so many bytes has room for the transcript of any input.
 pub const OUTPUT_LIMIT: usize = 4 * INPUT_LIMIT;
 
 // How far a replay has come: the scheduler, the departures so far, and the place up to which the buffer is written.
@@ -35,6 +35,14 @@ pub fn play(input: &[u8], out: &mut [u8]) -> usize
         return report::bad_line(out, 0, 0);
     }
     replay(input, out)
+}
+
+// The same, into a buffer with room for any transcript: nothing is left off.
+pub fn transcribe(input: &[u8], out: &mut [u8]) -> usize
+    requires { ⌜ outputLimit ≤ length (now out) ⌝ }
+    ensures { λ r. ⌜ PrintedWhole (transcript (now (input .entry))) (now (out .entry)) (now (out .exit)) r ⌝ }
+{
+    play(input, out)
 }
 
 // The replay of an input that is not too long, line by line.

@@ -5,6 +5,7 @@
 --     byte-fits       one byte where there is room
 --     byte-left-off   one byte where there is none
 --     printed         a text put from the start of a buffer is printed there
+--     printed-whole   where it fits, it is printed whole
 use Prim.Native.Nat.{ℕ, _+_, _<_, _≤_, min}
 use native.Mathlib.Omega.{arith}
 use mathlib.Core.Bool.{Bool, true, false, cond}
@@ -12,9 +13,9 @@ use mathlib.Core.List.{List, [], _∷_, _++_}
 use mathlib.Core.Path.{_≡_, refl, sym, ap, ap₂, _∙_}
 use lib.ListN.{length, take, drop, set, length-append, length-set}
 use lib.Dec.{ltb}
-use lib.Seq.{append-snoc, set-append-seam, take-nil, drop-nil}
+use lib.Seq.{append-snoc, set-append-seam, take-all, take-nil, drop-nil}
 use borrow.Author.Tests.{lt-ltb, le-ltb}
-use Rattle.print.specs.Page.{Page, page, putByte, put, Printed}
+use Rattle.print.specs.Page.{Page, page, putByte, put, Printed, PrintedWhole}
 
 pub put-append : (p : Page) (a b : List ℕ) → put p (a ++ b) ≡ put (put p a) b
 unfolding put
@@ -81,3 +82,10 @@ pub printed : (text before after : List ℕ) (count : ℕ) → page after count 
 printed text before after count e =
     let whole : page after count ≡ page (take (length before) text ++ drop (length text) before) (min (length text) (length before)) = e ∙ put-from-start before text in
     record { counted = ap (λ (p : Page). p .past) whole; written = ap (λ (p : Page). p .bytes) whole }
+
+pub printed-whole : {text before after : List ℕ} {count : ℕ} → length text ≤ length before → Printed text before after count → PrintedWhole text before after count
+printed-whole {text} {before} room p =
+    record {
+      counted = omega (arith, p .counted);
+      written = p .written ∙ ap (λ (l : List ℕ). l ++ drop (length text) before) (take-all (length before) text room);
+    }

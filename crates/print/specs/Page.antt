@@ -24,3 +24,8 @@ put p (byte ∷ text) = put (putByte p byte) text
 pub record Printed (text before after : List ℕ) (count : ℕ) : Type 0 where
   pub counted : count ≡ min (length text) (length before)
   pub written : after ≡ take (length before) text ++ drop (length text) before
+
+-- A text is printed into a buffer from its start, whole; the rest of the buffer is as before.
+pub record PrintedWhole (text before after : List ℕ) (count : ℕ) : Type 0 where
+  pub counted : count ≡ length text
+  pub written : after ≡ text ++ drop (length text) before

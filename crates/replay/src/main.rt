@@ -13,6 +13,6 @@ fn main() {
     };
     // room for any transcript
     let mut out = [0u8; OUTPUT_LIMIT];
-    let written = play::play(&input[..length], &mut out);
+    let written = play::transcribe(&input[..length], &mut out);
     io::write_all(STDOUT_FILENO, &out[..written]);
 }

@@ -1,5 +1,6 @@
--- `vectors::agrees` meets its contract: the parts that it lends lie within the buffers.
+-- `test_vectors::agrees` meets its contract: the parts that it lends lie within the buffers.
 use borrow.Author.Needs.{needs}
+use native.Mathlib.Omega.{arith}
 use Rattle.intake.proofs.Lent.{lent}
 use Rattle.io.proofs.Counting.{counts}
 use Rattle.play.proofs.Lengths.{count-within}
@@ -45,20 +46,20 @@ returns-2 c = search needs
 array-share-prefix-input : tie.Need-array-share-prefix-input
 array-share-prefix-input c = lent _ (c .before .before .before .before .before .before .before .before .length .given .1) (c .before .before .before .before .before .before .before .before .before .before .before .contents .ensures) .0
 
-slice-aggregate-play : tie.Need-slice-aggregate-play
-slice-aggregate-play c = lent _ (c .before .before .before .before .before .before .before .before .before .length .given .1) (c .before .before .before .before .before .before .before .before .before .before .before .before .contents .ensures) .1
+slice-aggregate-transcribe : tie.Need-slice-aggregate-transcribe
+slice-aggregate-transcribe c = lent _ (c .before .before .before .before .before .before .before .before .before .length .given .1) (c .before .before .before .before .before .before .before .before .before .before .before .before .contents .ensures) .1
 
-slice-aggregate-play-2 : tie.Need-slice-aggregate-play-2
-slice-aggregate-play-2 c = search needs
+slice-aggregate-transcribe-2 : tie.Need-slice-aggregate-transcribe-2
+slice-aggregate-transcribe-2 c = search needs
 
-play-requires : tie.Need-play-requires
-play-requires c κs = search needs
+transcribe-requires : tie.Need-transcribe-requires
+transcribe-requires c κs = omega arith
 
 array-share-prefix-out : tie.Need-array-share-prefix-out
-array-share-prefix-out c = count-within (c .before .play .ensures) (c .before .play .kept .1 .0)
+array-share-prefix-out c = count-within (c .before .transcribe .ensures)
 
 slice-aggregate-same : tie.Need-slice-aggregate-same
-slice-aggregate-same c = counts _ _ (count-within (c .before .before .play .ensures) (c .before .before .play .kept .1 .0)) .1
+slice-aggregate-same c = counts _ _ (count-within (c .before .before .transcribe .ensures)) .1
 
 array-share-prefix-recorded : tie.Need-array-share-prefix-recorded
 array-share-prefix-recorded c = lent _ (c .before .before .before .before .before .before .end .given .1) (c .before .before .before .before .before .before .before .before .before .contents2 .ensures) .0
@@ -89,9 +90,9 @@ agrees-spec =
     enum-told-2
     returns-2
     array-share-prefix-input
-    slice-aggregate-play
-    slice-aggregate-play-2
-    play-requires
+    slice-aggregate-transcribe
+    slice-aggregate-transcribe-2
+    transcribe-requires
     array-share-prefix-out
     slice-aggregate-same
     array-share-prefix-recorded

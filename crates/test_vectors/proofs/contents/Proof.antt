@@ -1,4 +1,4 @@
--- `vectors::contents` meets its contract: the path lies within its buffer.
+-- `test_vectors::contents` meets its contract: the path lies within its buffer.
 use borrow.Author.Needs.{needs}
 use Prim.Native.Nat.{ℕ, _-_, _≤_}
 use native.Mathlib.Omega.{arith}

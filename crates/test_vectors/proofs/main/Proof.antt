@@ -1,4 +1,4 @@
--- `vectors::main` is safe and ends. The measure is how many arguments are left.
+-- `test_vectors::main` is safe and ends. The measure is how many arguments are left.
 use borrow.Author.Needs.{needs}
 use Prim.Native.Nat.{_-_}
 use Rattle.test_vectors.proofs.main.Statement.{statement}
