@@ -25,6 +25,7 @@ pub fn cases() -> Vec<Case> {
     cases.extend(well_formed());
     cases.extend(bad_lines());
     cases.extend(lengths());
+    cases.push(long_transcript());
     cases
 }
 
@@ -251,18 +252,38 @@ fn story() -> Case {
     input += &"arrive=1 size=200\n".repeat(4);
     input += &"send=1\narrive=0 size=40\n".repeat(35);
 
-    let mut turns = vec![(0, 40, 0, 2), (1, 200, 0, 1)];
+    let mut departures = vec![(0, 40, 0, 2), (1, 200, 0, 1)];
     for _later_round in 0..3 {
-        turns.extend([(0, 40, 199, 362); 10]);
-        turns.push((1, 200, 199, 1));
+        departures.extend([(0, 40, 199, 362); 10]);
+        departures.push((1, 200, 199, 1));
     }
-    let output: String = (1..)
-        .zip(turns)
+    Case::new("story", input.as_bytes(), &sent_lines(&departures))
+}
+
+/// Many short lines that print long ones: the output is two and a half times the input. In each
+/// of 428 groups flow 0's large packet raises the mark, so that in the next round flow 9 has the
+/// longest numbers to show.
+fn long_transcript() -> Case {
+    let group = "arrive=0 size=256\n".to_string() + &"arrive=9 size=9\n".repeat(8) + "send=9\n";
+    let input = "flow=0 weight=1\nflow=9 weight=16\n".to_string() + &group.repeat(428);
+    assert_eq!(input.len(), 65_517);
+
+    let mut departures = vec![(0, 256, 0, 1)];
+    departures.extend([(9, 9, 0, 16); 2]);
+    departures.extend([(9, 9, 255, 4094); 6]);
+    let output = sent_lines(&departures.repeat(428));
+    assert_eq!(output.len(), 163_673);
+    Case::new("long-transcript", input.as_bytes(), &output)
+}
+
+/// The lines of these departures, each with its flow, size, mark and allowance.
+fn sent_lines(departures: &[(usize, usize, usize, usize)]) -> String {
+    (1..)
+        .zip(departures)
         .map(|(number, (flow, size, mark, allow))| {
             format!("sent={number} flow={flow} size={size} mark={mark} allow={allow}\n")
         })
-        .collect();
-    Case::new("story", input.as_bytes(), &output)
+        .collect()
 }
 
 /// Corners of the grammar and of what is printed.
