@@ -1,4 +1,5 @@
--- Laws that belong to no one function. Example and Lengths have the theorems on transcripts, ScriptLaws that on the bound of `scriptFrom`.
+-- Laws that belong to no one function. Example and Lengths have the theorems on transcripts, ScriptLaws that on the bound of `scriptFrom`, and Settled
+-- that no second outcome meets a contract.
 mod ReportLaws
 pub mod ScriptLaws
 mod StoryLaws
@@ -7,3 +8,4 @@ mod PlayLaws
 mod Waiting
 pub mod Lengths
 pub mod Example
+pub mod Settled
