@@ -7,9 +7,9 @@ use mathlib.Core.List.{List, [], _∷_, _++_}
 use mathlib.Core.Path.{_≡_, refl, sym, ap, _∙_}
 use lib.ListN.{length}
 use borrow.Author.Tests.{lt-ltb, lt-leb}
-use Rattle.lines.specs.Number.{largest, stands, digitAt, numberAt}
+use Rattle.lines.specs.Number.{stands, digitAt, numberAt}
 use Rattle.lines.specs.Line.{pastWord, fieldAt, pairAt}
-use Rattle.lines.specs.Written.{decimal, Spans}
+use Rattle.lines.specs.Written.{largest, decimal, Spans}
 use Rattle.lines.specs.declared.Past.{Past}
 use Rattle.lines.specs.declared.Past.the-variants.{At, Nowhere}
 use Rattle.lines.specs.declared.Number.{Number}

@@ -3,18 +3,20 @@
 --     text-is-line              the same, where the line is said to stand up to a place
 --     nothing-else-is-read      where an event is read, its line stands, up to the place that is given
 --     moves-on                  the place that is given is further on, and not past the end
+--     line-is, no-other-line    what `lineAt` gives is what `LineIs` says of lines as they are written, and nothing else is
 use Prim.Native.Nat.{ℕ, _+_, _<_, _≤_}
 use Prim.Native.Char.{code}
 use native.Mathlib.Omega.{arith}
+use mathlib.Core.Bool.{Bool, true, false, true≢false}
 use mathlib.Core.List.{List, [], _∷_, _++_}
-use mathlib.Core.Path.{_≡_, refl, ap, subst, _∙_}
+use mathlib.Core.Path.{_≡_, refl, sym, ap, subst, _∙_}
 use lib.Dec.{lit<}
 use lib.ListN.{length, drop, length-append, length-drop}
 use borrow.Author.Tests.{eqb-false}
 use Rattle.lines.specs.Text.{bytes}
 use Rattle.lines.specs.Number.{digitAt}
 use Rattle.lines.specs.Line.{pastWord, fieldAt, pairAt, eventAt, lineAt}
-use Rattle.lines.specs.Written.{field, eventText, written, Sayable, Spans}
+use Rattle.lines.specs.Written.{field, eventText, written, Sayable, Spans, LineIs}
 use Rattle.lines.specs.declared.Event.{Event}
 use Rattle.lines.specs.declared.Event.the-variants.{Flow, Arrive, Send}
 use Rattle.lines.specs.declared.Line.{Line}
@@ -29,6 +31,10 @@ use Rattle.lines.proofs.Steps.{field-without-word, pair-without-first, 
 use Rattle.lines.proofs.Span.{spans-of-drop, spans-join, spans-first, spans-rest}
 use Rattle.lines.proofs.Numbers.{Claims}
 use Rattle.lines.proofs.Fields.{text-is-word, WordTo, word-claims, other-text, no-digit-first, text-is-field, field-claims, text-is-pair, PairClaims, pair-claims}
+
+abbrev isRead : Line → Bool
+isRead (Read event next) = true
+isRead Bad = false
 
 module _ (s : List ℕ) (at : ℕ) where
   -- ---- what stands there is read
@@ -109,3 +115,18 @@ module _ (s : List ℕ) (at : ℕ) where
       let line = nothing-else-is-read e in
       let counted = ap length (line .1 .found) ∙ length-append (written event) (drop next s) in
       omega (arith, line .1 .ends, length-append (eventText event) (bytes "\n"), length-drop at s, length-drop next s, counted)
+
+  pub line-is : LineIs s at (lineAt s at)
+  line-is = by-answer (lineAt s at) refl
+    where
+      by-answer : (k : Line) → lineAt s at ≡ k → LineIs s at k
+      by-answer (Read event next) e = nothing-else-is-read e
+      by-answer Bad e = λ event next h p. true≢false (ap isRead (sym (text-is-line event h p) ∙ e))
+
+  pub no-other-line : (line : Line) → LineIs s at line → line ≡ lineAt s at
+  no-other-line (Read event next) p = sym (text-is-line event (p .0) (p .1))
+  no-other-line Bad none = by-answer (lineAt s at) line-is
+    where
+      by-answer : (k : Line) → LineIs s at k → Bad ≡ k
+      by-answer (Read event next) p = absurd (none event next (p .0) (p .1))
+      by-answer Bad p = refl

@@ -10,8 +10,8 @@ use mathlib.Core.Path.{_≡_, refl, sym, ap, subst, _∙_}
 use lib.ListN.{length, getD, length-append}
 use lib.Dec.{ltb, leb, eqb}
 use borrow.Author.Tests.{lt-ltb, le-leb, ltb-true, leb-true, ne-eqb, le-ltb, ltb-false, eqb-false}
-use Rattle.lines.specs.Number.{largest, mostDigits, stands, digitAt, digitsFrom, numberAt}
-use Rattle.lines.specs.Written.{digitByte, decimal, Spans}
+use Rattle.lines.specs.Number.{mostDigits, stands, digitAt, digitsFrom, numberAt}
+use Rattle.lines.specs.Written.{largest, digitByte, decimal, Spans}
 use Rattle.lines.specs.declared.Number.{Number}
 use Rattle.lines.specs.declared.Number.the-variants.{Of, NoNumber}
 use Rattle.lines.specs.declared.Digits.{Digits}

@@ -1,6 +1,6 @@
--- The lines of a replay: bytes of a text (Text), numbers (Number), the three line forms and the event that a line is (Line), and lines as they are
--- written (Written).
+-- The lines of a replay as they are written: the bytes of a text (Text), and which line stands at a place (Written, `LineIs`). How one is read: a number
+-- (Number), the three line forms and the event that a line is (Line, `lineAt`). The theorems `line-is` and `no-other-line` hold reading to writing.
 pub mod Text
+pub mod Written
 pub mod Number
 pub mod Line
-pub mod Written

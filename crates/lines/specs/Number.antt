@@ -5,12 +5,10 @@ use mathlib.Core.Bool.{Bool, cond, _&&_}
 use mathlib.Core.List.{List}
 use lib.ListN.{length, getD}
 use lib.Dec.{ltb, leb, eqb}
+use Rattle.lines.specs.Written.{largest}
 use Rattle.lines.specs.declared.Number.{Number}
 use Rattle.lines.specs.declared.Number.the-variants.{Of, NoNumber}
 use Rattle.lines.specs.declared.Digits.{Digits}
-
-abbrev pub largest : ℕ
-largest = 65_535
 
 abbrev pub mostDigits : ℕ
 mostDigits = 5

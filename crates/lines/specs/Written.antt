@@ -8,9 +8,10 @@ use mathlib.Core.Path.{_≡_}
 use lib.Dec.{ltb}
 use lib.ListN.{length, drop}
 use Rattle.lines.specs.Text.{bytes}
-use Rattle.lines.specs.Number.{largest}
 use Rattle.lines.specs.declared.Event.{Event}
 use Rattle.lines.specs.declared.Event.the-variants.{Flow, Arrive, Send}
+use Rattle.lines.specs.declared.Line.{Line}
+use Rattle.lines.specs.declared.Line.the-variants.{Read, Bad}
 
 -- the byte of a digit
 abbrev pub digitByte : ℕ → ℕ
@@ -38,6 +39,10 @@ eventText (Send count) = field "send=" count
 unfoldable pub written : Event → List ℕ
 written event = eventText event ++ bytes "\n"
 
+-- Numbers are 0 to 65,535.
+abbrev pub largest : ℕ
+largest = 65_535
+
 -- an event that a line can say
 abbrev pub Sayable : Event → Type 0
 Sayable (Flow flow weight) = (flow ≤ largest) × (weight ≤ largest)
@@ -48,3 +53,8 @@ Sayable (Send count) = count ≤ largest
 pub record Spans (s : List ℕ) (at : ℕ) (text : List ℕ) (past : ℕ) : Type 0 where
   pub ends : past ≡ at + length text
   pub found : drop at s ≡ text ++ drop past s
+
+-- What the line at a place is: an event whose line stands there, up to the next place; bad where no event's does.
+abbrev pub LineIs : List ℕ → ℕ → Line → Type 0
+LineIs s at (Read event next) = Sayable event × Spans s at (written event) next
+LineIs s at Bad = (event : Event) (next : ℕ) → Sayable event → Spans s at (written event) next → ⊥

@@ -9,8 +9,7 @@ use borrow.Author.Tests.{lt-ltb, le-ltb}
 use Rattle.model.specs.Model.{Scheduler}
 use Rattle.model.proofs.Keeps.{new-keeps}
 use Rattle.lines.specs.Line.{lineAt}
-use Rattle.lines.specs.Number.{largest}
-use Rattle.lines.specs.Written.{Sayable}
+use Rattle.lines.specs.Written.{largest, Sayable}
 use Rattle.lines.specs.declared.Event.{Event}
 use Rattle.lines.specs.declared.Event.the-variants.{Flow, Arrive, Send}
 use Rattle.lines.specs.declared.Line.the-variants.{Read, Bad}

@@ -34,7 +34,7 @@ fn agrees(name: &[u8]) -> bool {
     let Intake::Bytes(length) = contents(name, b".in", &mut input) else {
         return false;
     };
-    // one byte more than a transcript may have, so that no longer output is taken for one that was cut
+    // one byte more than a transcript may have, to find an output that is longer
     let mut recorded = [0u8; OUTPUT_LIMIT + 1];
     let Intake::Bytes(end) = contents(name, b".out", &mut recorded) else {
         return false;
