@@ -22,7 +22,7 @@ use Rattle.play.specs.Course.{replayOf, asked, Goes}
 use Rattle.print.specs.Page.{Page, page, put}
 use Rattle.play.specs.Script.{Script, scriptFrom, scriptOf}
 use Rattle.play.specs.Story.{bad, Replay, Happening, newReplay, happening, story}
-use Rattle.play.specs.Transcript.{inputLimit, lineOf, textOf, reportsOf, transcript}
+use Rattle.play.specs.Transcript.{inputLimit, lineOf, textOf, transcript}
 use Rattle.play.specs.declared.Course.{Course}
 use Rattle.print.proofs.PageLaws.{put-append}
 use Rattle.play.proofs.ScriptLaws.{ends, rest, rest-reads, rest-spoils}
@@ -31,11 +31,11 @@ use Rattle.play.proofs.StoryLaws.{text-append, text-of-one, replay, dep
 -- ---- too long an input, and any other
 
 pub too-long : (input : List ℕ) → inputLimit < length input → transcript input ≡ lineOf (bad 0)
-unfolding transcript reportsOf
+unfolding transcript
 too-long input h = ap (λ (t : Bool). textOf (cond t (bad 0 ∷ []) (story newReplay 1 (scriptOf input)))) (lt-ltb inputLimit (length input) h) ∙ text-of-one (bad 0)
 
 pub short-enough : (input : List ℕ) → length input ≤ inputLimit → transcript input ≡ textOf (story newReplay 1 (scriptOf input))
-unfolding transcript reportsOf
+unfolding transcript
 short-enough input h = ap (λ (t : Bool). textOf (cond t (bad 0 ∷ []) (story newReplay 1 (scriptOf input)))) (le-ltb inputLimit (length input) h)
 
 pub too-long-printed : (input before after : List ℕ) (past : ℕ) → inputLimit < length input → page after past ≡ put (page before 0) (lineOf (bad 0))

@@ -33,9 +33,6 @@ unfoldable pub textOf : List Report → List ℕ
 textOf [] = []
 textOf (r ∷ more) = lineOf r ++ textOf more
 
--- Too long an input gives only `bad=0`.
-unfoldable pub reportsOf : List ℕ → List Report
-reportsOf input = cond (ltb inputLimit (length input)) (bad 0 ∷ []) (story newReplay 1 (scriptOf input))
-
+-- What the replay of an input prints. Too long an input gives only `bad=0`.
 unfoldable pub transcript : List ℕ → List ℕ
-transcript input = textOf (reportsOf input)
+transcript input = textOf (cond (ltb inputLimit (length input)) (bad 0 ∷ []) (story newReplay 1 (scriptOf input)))
