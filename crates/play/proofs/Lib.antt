@@ -1,4 +1,4 @@
--- Laws that belong to no one function. Example and Lengths have the theorems on transcripts, ScriptLaws that on the bound of `scriptFrom`, and Settled
+-- Laws that belong to no one function. Theorems has what the replay writes, Example document 01's example (Worked), Lengths how long a transcript can be, ScriptLaws that on the bound of `scriptFrom`, and Settled
 -- that no second outcome meets a contract.
 mod ReportLaws
 pub mod ScriptLaws
@@ -7,5 +7,7 @@ mod CourseLaws
 mod PlayLaws
 mod Waiting
 pub mod Lengths
+pub mod Worked
 pub mod Example
 pub mod Settled
+pub mod Theorems

@@ -1,7 +1,6 @@
 -- What the replay prints. Script (the events of an input), Story (what happens at each, and what is reported of it) and Transcript (the printed text)
--- are what a reader believes, with Worked, document 01's example; Course serves the contracts of the private functions.
+-- are what a reader believes; Course serves the contracts of the private functions.
 pub mod Script
 pub mod Story
 pub mod Transcript
-pub mod Worked
 pub mod Course
