@@ -35,14 +35,14 @@ fn pair(s: State, f: usize, size: usize, check: u32) -> Paired
 {
     let asked = s.offer(f, size);
     let answer = asked.answer;
-    let told = sums::answered(check, answer);
+    let folded = sums::answered(check, answer);
     let offered = asked.state;
     let left = offered.depart();
     let state = left.state;
     let reply = left.reply;
     Paired {
         state: state,
-        check: sums::replied(told, reply),
+        check: sums::replied(folded, reply),
     }
 }
 

@@ -41,13 +41,13 @@ fn filled() -> [u8; SIZE_LIMIT]
 
 // The departure, and the first and the last byte of its packet.
 fn replied(check: u32, reply: Reply, out: &[u8; SIZE_LIMIT]) -> u32 {
-    let told = sums::replied(check, reply);
+    let folded = sums::replied(check, reply);
     if let Reply::Departure(d) = reply {
         // no contract is asked for the size, so that any reply has a byte here; sizes are 1 to 256
         let last = std::num::wrapping_sub_u16(d.size, 1) % 256;
-        sums::fold_byte(sums::fold_byte(told, out[0]), out[last as usize])
+        sums::fold_byte(sums::fold_byte(folded, out[0]), out[last as usize])
     } else {
-        told
+        folded
     }
 }
 

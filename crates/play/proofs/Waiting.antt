@@ -18,41 +18,41 @@ use Rattle.model.proofs.Departing.{Leaves, departed-leaves}
 
 -- ---- the packets of a list of flows
 
-held : List Flow → ℕ
-held [] = 0
-held (x ∷ l) = length (x .queue) + held l
+queuedInAll : List Flow → ℕ
+queuedInAll [] = 0
+queuedInAll (x ∷ l) = length (x .queue) + queuedInAll l
 
 pub waiting : Scheduler → ℕ
-waiting s = held (s .flows)
+waiting s = queuedInAll (s .flows)
 
 pub nothing-waits : waiting newScheduler ≡ 0
-unfolding waiting held newScheduler
+unfolding waiting queuedInAll newScheduler
 nothing-waits = refl
 
 queued : List Flow → ℕ → ℕ
 queued l f = length (getD l f closedFlow .queue)
 
-held-set : (l : List Flow) (f : ℕ) (x : Flow) → f < length l → held (set l f x) + queued l f ≡ held l + length (x .queue)
-unfolding held queued
-held-set [] f x h = absurd (omega arith)
-held-set (y ∷ l) zero x h = omega arith
-held-set (y ∷ l) (suc f) x h = omega (arith, held-set l f x (omega arith))
+queuedInAll-set : (l : List Flow) (f : ℕ) (x : Flow) → f < length l → queuedInAll (set l f x) + queued l f ≡ queuedInAll l + length (x .queue)
+unfolding queuedInAll queued
+queuedInAll-set [] f x h = absurd (omega arith)
+queuedInAll-set (y ∷ l) zero x h = omega arith
+queuedInAll-set (y ∷ l) (suc f) x h = omega (arith, queuedInAll-set l f x (omega arith))
 
 none-queued : (l : List Flow) (f : ℕ) → length l ≤ f → queued l f ≡ 0
 unfolding queued
 none-queued l f h = ap (λ (x : Flow). length (x .queue)) (List·getD-eq-default l closedFlow h)
 
-held-grows : (l : List Flow) (f : ℕ) (x : Flow) (k : ℕ) → length (x .queue) ≤ queued l f + k → held (set l f x) ≤ held l + k
-held-grows l f x k h =
+queuedInAll-grows : (l : List Flow) (f : ℕ) (x : Flow) (k : ℕ) → length (x .queue) ≤ queued l f + k → queuedInAll (set l f x) ≤ queuedInAll l + k
+queuedInAll-grows l f x k h =
     elim (decLt f (length l)) [
-      | yes b ↦ omega (arith, held-set l f x b)
-      | no b ↦ omega (arith, ap held (set-out l f x (omega arith)))
+      | yes b ↦ omega (arith, queuedInAll-set l f x b)
+      | no b ↦ omega (arith, ap queuedInAll (set-out l f x (omega arith)))
     ]
 
-held-falls : (l : List Flow) (f : ℕ) (x : Flow) → length (x .queue) < queued l f → held (set l f x) < held l
-held-falls l f x h =
+queuedInAll-falls : (l : List Flow) (f : ℕ) (x : Flow) → length (x .queue) < queued l f → queuedInAll (set l f x) < queuedInAll l
+queuedInAll-falls l f x h =
     elim (decLt f (length l)) [
-      | yes b ↦ omega (arith, held-set l f x b)
+      | yes b ↦ omega (arith, queuedInAll-set l f x b)
       | no b ↦ absurd (omega (arith, none-queued l f (omega arith)))
     ]
 
@@ -60,18 +60,18 @@ held-falls l f x h =
 
 pub opening-waits : (s : Scheduler) (f weight : ℕ) → waiting (put s f (openFlow weight) (s .round)) ≤ waiting s + 1
 unfolding put waiting
-opening-waits s f weight = held-grows (s .flows) f (openFlow weight) 1 (omega arith)
+opening-waits s f weight = queuedInAll-grows (s .flows) f (openFlow weight) 1 (omega arith)
 
 pub offering-waits : (s : Scheduler) (f size : ℕ) → waiting (put s f (packetJoined (flowAt s f) size) (flowLined (s .round) f (flowAt s f))) ≤ waiting s + 1
 unfolding put waiting packetJoined queued
-offering-waits s f size = held-grows (s .flows) f (packetJoined (flowAt s f) size) 1 (omega (arith, length-append (flowAt s f .queue) (size ∷ [])))
+offering-waits s f size = queuedInAll-grows (s .flows) f (packetJoined (flowAt s f) size) 1 (omega (arith, length-append (flowAt s f .queue) (size ∷ [])))
 
 -- ---- a departure: one packet less waits
 
 pub one-less : (s : Scheduler) → Rules s → (d : Sent) → departed s .reply ≡ Departure d → waiting (departed s .state) < waiting s
 unfolding departed put waiting queued
 one-less s R d e =
-    held-falls (s .flows) f (nextVisit s .flow)
+    queuedInAll-falls (s .flows) f (nextVisit s .flow)
     (omega (arith, ap length (subst (λ (g : ℕ). flowAt s g .queue ≡ d .size ∷ flowAt (departed s .state) g .queue) (L .had-the-turn) (L .first-in-queue)), ap (λ (x : Flow). length (x .queue)) left))
   where
     f : ℕ

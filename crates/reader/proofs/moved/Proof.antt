@@ -23,7 +23,7 @@ use denote.Triple.Clauses.{Clauses}
 use denote.Triple.Entry.{Vals, onEntry}
 use Rattle.reader.proofs.Contract.{Walk, answers, proved}
 use Rattle.reader.proofs.Frame.{within, whole-of, part-of, sets, leave}
-use Rattle.reader.proofs.Held.{Held, fields, laws, first-of, together, apart, fits-reader}
+use Rattle.reader.proofs.TakenApart.{ReaderOf, fields, laws, first-of, together, apart, fits-reader}
 use Rattle.reader.proofs.Reader.Laws as reader′
 use Rattle.reader.proofs.moved as moved
 use Rattle.reader.proofs.moved.Key as key
@@ -49,8 +49,8 @@ module _ {M : Type 1} (𝓤 : URA M) (H : Heap 𝓤) (𝓜 : Model 𝓤 H) (𝓖
       sets ! (of-opd ! (part-of ! refl refl refl)) refl (tt, is-reader .1 .0) $
       sets ! (agg ! (and-then ! (whole-of ! refl) (and-then ! (whole-of ! refl) (no-more !)))) refl (tt, (is-reader .1 .0, (record { fits = are .1 .0 .1 }, tt))) $
       returns ! (look ! 0 refl) $ leave ! (code.function .locals) bs (_, (_, (_, (_, tt)))) $
-      by ! (answers W moved.ended says ((κs, qs, bounds, a, passed), g) (owns (Held κs ∷ usize ∷ []) a passed) _ (record { input = a .0 .input; at = a .1 .0 })
-      (via 𝓤 _ (first-of W (Held κs) (usize ∷ []) a passed) (via 𝓤 _ (apart W (κs .0) (a .0) _) (together W (κs .0) (a .0 .input) (a .1 .0) (are .1 .0 .1))))
+      by ! (answers W moved.ended says ((κs, qs, bounds, a, passed), g) (owns (ReaderOf κs ∷ usize ∷ []) a passed) _ (record { input = a .0 .input; at = a .1 .0 })
+      (via 𝓤 _ (first-of W (ReaderOf κs) (usize ∷ []) a passed) (via 𝓤 _ (apart W (κs .0) (a .0) _) (together W (κs .0) (a .0 .input) (a .1 .0) (are .1 .0 .1))))
       (tt, (tt, tt)) (factI 𝓤 _ (emp 𝓤) (refl, refl))))
 
 pub moved-spec : {M : Type 1} → statement M

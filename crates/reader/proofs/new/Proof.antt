@@ -22,7 +22,7 @@ use denote.Triple.Clauses.{Clauses}
 use denote.Triple.Entry.{Vals, onEntry}
 use Rattle.reader.proofs.Contract.{Walk, answers, proved}
 use Rattle.reader.proofs.Frame.{within, whole-of, sets, leave}
-use Rattle.reader.proofs.Held.{Bytes, bytesVal, first-of, together}
+use Rattle.reader.proofs.TakenApart.{Bytes, bytesVal, first-of, together}
 use Rattle.reader.proofs.new as new
 use Rattle.reader.proofs.new.Key as key
 use Rattle.reader.proofs.new.Statement.{statement}

@@ -30,7 +30,7 @@ use Rattle.lines.proofs.line_at.Symbol as line-at-def
 use Rattle.lines.proofs.line_at.Met as line-at-thm
 use Rattle.reader.proofs.Contract.{Terms, Walk, answers, asks, proved, known, framed}
 use Rattle.reader.proofs.Frame.{within, whole-of, part-of, sets, gets, leave}
-use Rattle.reader.proofs.Held.{Bytes, bytesVal, Held, fields, laws, first-of, with-number, apart, fits-reader}
+use Rattle.reader.proofs.TakenApart.{Bytes, bytesVal, ReaderOf, fields, laws, first-of, with-number, apart, fits-reader}
 use Rattle.reader.proofs.Reader.Laws as reader′
 use Rattle.reader.proofs.next as next
 use Rattle.reader.proofs.next.Key as key
@@ -59,8 +59,8 @@ module _ {M : Type 1} (𝓤 : URA M) (H : Heap 𝓤) (𝓜 : Model 𝓤 H) (𝓖
       params1 ! $ pass1 ! (init ! 2 refl is-reader) $ pass0 ! $
       sets ! (of-opd ! (part-of ! refl refl refl)) refl (tt, is-reader .1 .0) $
       sets ! (of-opd ! (part-of ! refl refl refl)) refl (tt, is-reader .1 .1 .0) $
-      asks ! fm 8 line-at.ended line-says line-at-met asked (and-then ! (whole-of ! refl) (and-then ! (whole-of ! refl) (no-more !))) (owns (Held κs ∷ []) a passed) refl
-      (via 𝓤 _ (first-of W (Held κs) [] a passed) (via 𝓤 _ (apart W (κs .0) (a .0) _) (with-number W (Bytes (κs .0)) (a .0 .input) _ (a .0 .at) (is-reader .1 .1 .0 .fits))))
+      asks ! fm 8 line-at.ended line-says line-at-met asked (and-then ! (whole-of ! refl) (and-then ! (whole-of ! refl) (no-more !))) (owns (ReaderOf κs ∷ []) a passed) refl
+      (via 𝓤 _ (first-of W (ReaderOf κs) [] a passed) (via 𝓤 _ (apart W (κs .0) (a .0) _) (with-number W (Bytes (κs .0)) (a .0 .input) _ (a .0 .at) (is-reader .1 .1 .0 .fits))))
       (id⊢ 𝓤 (emp 𝓤)) (λ l. l ≡ lineAt (now (a .0 .input)) (a .0 .at)) (λ l ws. id⊢ 𝓤 _) (λ u l is-next is-line.
       gets ! refl (enum.lawful line.the-type line′.the-laws 𝓤 H (𝓖 .A) W tt .typed l _ is-line .0) $
       returns ! (look ! 0 refl) $ leave ! (code.function .locals) bs (_, (_, (_, (_, tt)))) $

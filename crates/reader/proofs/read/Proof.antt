@@ -32,7 +32,7 @@ use Rattle.lines.proofs.Line.Laws as line′
 use Rattle.reader.specs.declared.Reader.{Reader}
 use Rattle.reader.proofs.Contract.{Terms, Walk, answers, asks, proved, known, framed}
 use Rattle.reader.proofs.Frame.{within, whole-of, gets, leave}
-use Rattle.reader.proofs.Held.{Bytes, bytesVal, Held, first-of, alone, with-number, fits-reader}
+use Rattle.reader.proofs.TakenApart.{Bytes, bytesVal, ReaderOf, first-of, alone, with-number, fits-reader}
 use Rattle.reader.proofs.new as new
 use Rattle.reader.proofs.new.Symbol as new-def
 use Rattle.reader.proofs.new.Met as new-thm
@@ -87,12 +87,12 @@ module _ {M : Type 1} (𝓤 : URA M) (H : Heap 𝓤) (𝓜 : Model 𝓤 H) (𝓖
       gets ! refl (fits-reader W (κs .0) erased made u made-is) $
       -- `moved` on that and the place, into local 3
       asks ! fm 10 moved.ended moved-says moved-met ((κs, qs, tt, (made, (a .1 .0, tt)), (u ∷ [], (vint w64 (a .1 .0) ∷ [], tt))), tt)
-      (and-then ! (whole-of ! refl) (and-then ! (whole-of ! refl) (no-more !))) (Held κs .own made (u ∷ [])) refl (with-number W (Held κs) made (u ∷ []) (a .1 .0) (are .1 .0 .1)) (id⊢ 𝓤 (emp 𝓤))
+      (and-then ! (whole-of ! refl) (and-then ! (whole-of ! refl) (no-more !))) (ReaderOf κs .own made (u ∷ [])) refl (with-number W (ReaderOf κs) made (u ∷ []) (a .1 .0) (are .1 .0 .1)) (id⊢ 𝓤 (emp 𝓤))
       (λ r. (r .input ≡ made .input) × (r .at ≡ a .1 .0)) (λ r ws. id⊢ 𝓤 _) (λ w gone is-gone gone-is.
       gets ! refl (fits-reader W (κs .0) erased gone w gone-is) $
       -- `next` on that, into the result
       asks ! fm 10 next.ended next-says next-met ((κs, qs, tt, (gone, tt), (w ∷ [], tt)), tt) (and-then ! (whole-of ! refl) (no-more !))
-      (Held κs .own gone (w ∷ [])) refl (alone W (Held κs) gone (w ∷ [])) (id⊢ 𝓤 (emp 𝓤))
+      (ReaderOf κs .own gone (w ∷ [])) refl (alone W (ReaderOf κs) gone (w ∷ [])) (id⊢ 𝓤 (emp 𝓤))
       (λ l. l ≡ lineAt (now (gone .input)) (gone .at)) (λ l ws. id⊢ 𝓤 _) (λ v l is-next is-line.
       gets ! refl (enum.lawful line.the-type line′.the-laws 𝓤 H (𝓖 .A) W tt .typed l _ is-line .0) $
       returns ! (look ! 0 refl) $ leave ! (code.function .locals) bs (_, (_, (_, (_, (_, tt))))) $

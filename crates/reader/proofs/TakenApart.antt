@@ -37,8 +37,8 @@ abbrev pub bytesVal : RefT (List ℕ) → Val
 bytesVal s = sliceVal (s .ptr) (length (s .now))
 
 -- `Reader<'a>`, as a type, as a struct of two fields, and the laws of those
-abbrev pub Held : Lfts 1 → RattleType
-Held κs = reader.the-row (namedLft 1 0 tt κs)
+abbrev pub ReaderOf : Lfts 1 → RattleType
+ReaderOf κs = reader.the-row (namedLft 1 0 tt κs)
 
 abbrev pub fields : Lfts 1 → Declared
 fields κs = reader.the-type (namedLft 1 0 tt κs)
@@ -61,17 +61,17 @@ module _ {M : Type 1} {𝓤 : URA M} {H : Heap 𝓤} {A : Atoms 𝓤} (W : Given
 
   module _ (κ : Lft) where
     -- a reader of a slice and a place, and the slice of a reader
-    pub together : (s : RefT (List ℕ)) (n : ℕ) → n < 2 ^ 64 → ent 𝓤 (sem 𝓤 H A (Bytes κ .own s (bytesVal s ∷ []))) (sem 𝓤 H A (Held (κ, tt) .own (record { input = s; at = n }) (reader′.lowered (record { input = s; at = n }) ∷ [])))
+    pub together : (s : RefT (List ℕ)) (n : ℕ) → n < 2 ^ 64 → ent 𝓤 (sem 𝓤 H A (Bytes κ .own s (bytesVal s ∷ []))) (sem 𝓤 H A (ReaderOf (κ, tt) .own (record { input = s; at = n }) (reader′.lowered (record { input = s; at = n }) ∷ [])))
     together s n fits =
         via 𝓤 (sem 𝓤 H A (owns (Bytes κ ∷ usize ∷ []) (s, (n, tt)) (bytesVal s ∷ [], (vint w64 n ∷ [], tt)))) (with-number (Bytes κ) s (bytesVal s ∷ []) n fits)
         (own-shut 𝓤 H A W (fields (κ, tt)) (laws (κ, tt)) (s, (n, tt)))
 
-    pub apart : (r : Reader) (v : Val) → ent 𝓤 (sem 𝓤 H A (Held (κ, tt) .own r (v ∷ []))) (sem 𝓤 H A (Bytes κ .own (r .input) (bytesVal (r .input) ∷ [])))
+    pub apart : (r : Reader) (v : Val) → ent 𝓤 (sem 𝓤 H A (ReaderOf (κ, tt) .own r (v ∷ []))) (sem 𝓤 H A (Bytes κ .own (r .input) (bytesVal (r .input) ∷ [])))
     apart r v =
-        qed W (‵ (Held (κ, tt) .own r (v ∷ [])) ∷ []) ∵
+        qed W (‵ (ReaderOf (κ, tt) .own r (v ∷ [])) ∷ []) ∵
         use1 W (given (v ∷ [] ≡ reader′.lowered r ∷ []) (‵ (all-own (fields (κ, tt) .parts) (laws (κ, tt)) (r .input, (r .at, tt))))) (own-open 𝓤 H A W (fields (κ, tt)) (laws (κ, tt)) (r .input, (r .at, tt)) v) $
         learn ! (λ _. fsplit ! $ keep ! (0 ∷ []) $ done !)
 
     -- what a local of a reader's type asks of the value that is stored there: a parameter's type has its lifetime, and another local's has none
-    pub fits-reader : (ℓ : Lifetime) (r : Reader) (v : Val) → Is (Held (κ, tt)) r (v ∷ []) → T (hasTy (reader′.mir ℓ) v) × WT v
+    pub fits-reader : (ℓ : Lifetime) (r : Reader) (v : Val) → Is (ReaderOf (κ, tt)) r (v ∷ []) → T (hasTy (reader′.mir ℓ) v) × WT v
     fits-reader ℓ r v is = struct.lawful (reader.the-type (record { mir = ℓ; lft = κ })) (reader′.the-laws (record { mir = ℓ; lft = κ })) 𝓤 H A W .typed r (v ∷ []) is .0
