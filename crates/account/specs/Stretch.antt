@@ -42,8 +42,8 @@ BetweenTurns s f = (allowed sent : ℕ) → s .round .turn ≡ Turn f allowed se
 
 module _ (K : Kind) where
   -- Bytes of flow f, and the largest packet, among what left.
-  abbrev pub bytesOf : ℕ → List (K .Departure) → ℕ
-  bytesOf f l = sumOf (K .flowOf) f (K .sizeOf) l
+  abbrev pub bytesBy : ℕ → List (K .Departure) → ℕ
+  bytesBy f l = sumOf (K .flowOf) f (K .sizeOf) l
 
   abbrev pub largestOf : List (K .Departure) → ℕ
   largestOf l = largest (K .sizeOf) l
@@ -78,7 +78,7 @@ module _ (K : Kind) where
   turnsIn s calls = over K (λ (e : Effect (K .State) (K .Packet) (K .Departure)). e .completes) s calls
 
   abbrev pub bytesSent : Stretch → ℕ → ℕ
-  bytesSent x f = bytesOf f (sentIn (begun x .state) (x .calls))
+  bytesSent x f = bytesBy f (sentIn (begun x .state) (x .calls))
 
   -- The largest packet that anyone has sent, from the last reset to the end of the stretch.
   abbrev pub largestSinceReset : Stretch → ℕ

@@ -6,7 +6,7 @@ use mathlib.Core.List.{List, _++_}
 use lib.ListN.{length}
 use Rattle.model.specs.Chain.{Seen, Kind, History, begin, chain, seenOver}
 use Rattle.model.specs.Runs.{Run}
-use Rattle.account.specs.Stretch.{Stretch, leftOver, bytesOf, largestOf, WaitingThroughout, ConsecutiveTurns, weightOf, surplusBefore, surplusAfter, onePlusMarks}
+use Rattle.account.specs.Stretch.{Stretch, leftOver, bytesBy, largestOf, WaitingThroughout, ConsecutiveTurns, weightOf, surplusBefore, surplusAfter, onePlusMarks}
 
 -- A layer: its kind of calls, and the code that makes them.
 pub record Layer : Type 1 where
@@ -70,18 +70,18 @@ module _ (L : Layer) where
   -- sent plus surplus carried into the first turn equal surplus after the last plus weight times the sum of one plus the mark of each turn's round.
   pub record Demand3 : Type 0 where
     pub account-balances : {x : Stretch (L .kind)} {h : CodeHistory} {seen : List SeenOf} → RunOver x h seen → (f : ℕ) → ConsecutiveTurns (L .kind) x f
-        → bytesOf (L .kind) f (leftOver seen) + surplusBefore (L .kind) x f ≡ surplusAfter (L .kind) x f + weightOf (L .kind) x f * onePlusMarks (L .kind) x f
+        → bytesBy (L .kind) f (leftOver seen) + surplusBefore (L .kind) x f ≡ surplusAfter (L .kind) x f + weightOf (L .kind) x f * onePlusMarks (L .kind) x f
     -- Over any stretch of calls without a reset, from any moment on, in which two flows both have packets waiting before and after every call and at least
     -- one packet is sent, each one's bytes times the other's weight differ by less than three times the largest packet sent by anyone since the last reset
     -- times both weights. (A flow that waits after every call saw no reset.)
     pub shares-differ-by-less : {x : Stretch (L .kind)} {h : CodeHistory} {seen : List SeenOf} → RunOver x h seen → (i j : ℕ)
         → WaitingThroughout (L .kind) x i → WaitingThroughout (L .kind) x j → 1 ≤ length (leftOver seen)
-        → weightOf (L .kind) x j * bytesOf (L .kind) i (leftOver seen)
-        < weightOf (L .kind) x i * bytesOf (L .kind) j (leftOver seen) + 3 * largestOf (L .kind) (h .left) * (weightOf (L .kind) x i * weightOf (L .kind) x j)
+        → weightOf (L .kind) x j * bytesBy (L .kind) i (leftOver seen)
+        < weightOf (L .kind) x i * bytesBy (L .kind) j (leftOver seen) + 3 * largestOf (L .kind) (h .left) * (weightOf (L .kind) x i * weightOf (L .kind) x j)
     -- The exact bound: with m the largest packet they differ by at most m times both weights and m - 1 times their sum.
     pub shares-differ-by-at-most : {x : Stretch (L .kind)} {h : CodeHistory} {seen : List SeenOf} → RunOver x h seen → (i j : ℕ)
         → WaitingThroughout (L .kind) x i → WaitingThroughout (L .kind) x j
-        → weightOf (L .kind) x j * bytesOf (L .kind) i (leftOver seen)
-        ≤ weightOf (L .kind) x i * bytesOf (L .kind) j (leftOver seen)
+        → weightOf (L .kind) x j * bytesBy (L .kind) i (leftOver seen)
+        ≤ weightOf (L .kind) x i * bytesBy (L .kind) j (leftOver seen)
         + (largestOf (L .kind) (h .left) * (weightOf (L .kind) x i * weightOf (L .kind) x j)
         + (largestOf (L .kind) (h .left) - 1) * (weightOf (L .kind) x i + weightOf (L .kind) x j))

@@ -7,7 +7,7 @@ use lib.ListN.{length, length-map}
 use lib.Dec.{eqb}
 use Rattle.model.specs.OrderCalls.{Packet as SizedPacket, packetsOf, orderCalls}
 use Rattle.model.specs.declared.Sent.{Sent}
-use Rattle.account.specs.Stretch.{sumOf, largest, bytesOf, largestOf}
+use Rattle.account.specs.Stretch.{sumOf, largest, bytesBy, largestOf}
 use Rattle.store.specs.StoreCalls.{Packet, storeCalls}
 
 -- The flow and the length of each packet.
@@ -45,7 +45,7 @@ module _ {D : Type 0} (flowOf sizeOf : D → ℕ) where
 
 -- Packets that have, in order, the flows and the sizes that departures tell.
 module _ (l : List Packet) (sent : List Sent) (agree : sized l ≡ packetsOf sent) where
-  pub same-bytes : (f : ℕ) → bytesOf storeCalls f l ≡ bytesOf orderCalls f sent
+  pub same-bytes : (f : ℕ) → bytesBy storeCalls f l ≡ bytesBy orderCalls f sent
   same-bytes f =
       bytes-sized (λ (p : Packet). p .flow) (λ (p : Packet). length (p .bytes)) f l
       ∙ ap (bytesIn f) agree

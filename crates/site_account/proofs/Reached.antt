@@ -8,7 +8,7 @@ use lib.ListN.{length, replicate}
 use Rattle.model.specs.Model.{flowAt, newScheduler}
 use Rattle.model.specs.OrderCalls.{orderCalls}
 use Rattle.model.proofs.Chains.{OrderHistory}
-use Rattle.account.specs.Stretch.{Stretch, Waiting, begun, sumOf, turnFlow, onePlusMark, WaitingThroughout, sentIn, bytesOf, largestOf, bytesSent, largestSinceReset, onePlusMarks, ConsecutiveTurns, weightOf, surplusBefore, surplusAfter}
+use Rattle.account.specs.Stretch.{Stretch, Waiting, begun, sumOf, turnFlow, onePlusMark, WaitingThroughout, sentIn, bytesBy, largestOf, bytesSent, largestSinceReset, onePlusMarks, ConsecutiveTurns, weightOf, surplusBefore, surplusAfter}
 use Rattle.account.proofs.Reaching.{reaching, Reaches}
 use Rattle.account.proofs.Bursts.{singly, oneByOne, SameAs, one-by-one}
 use Rattle.account.proofs.Reached.{bound-is-reached}
@@ -61,7 +61,7 @@ module _ (first : List ℕ) (whole : length first ≡ storeLength) where
 
   -- Each number is the order layer's.
   bytes-are : (f : ℕ) → bytesSent storeCalls x f ≡ bytesSent orderCalls reaching f
-  bytes-are f = same .bytes-same f ∙ ap (λ (y : Stretch orderCalls). bytesSent orderCalls y f) same-calls ∙ ap (bytesOf orderCalls f) (singles-same .sent-same)
+  bytes-are f = same .bytes-same f ∙ ap (λ (y : Stretch orderCalls). bytesSent orderCalls y f) same-calls ∙ ap (bytesBy orderCalls f) (singles-same .sent-same)
 
   largest-is : largestSinceReset storeCalls x ≡ largestSinceReset orderCalls reaching
   largest-is = same .largest-same ∙ ap (largestSinceReset orderCalls) same-calls ∙ ap (λ (h : OrderHistory). largestOf orderCalls (h .left)) (singles-same .history-same)
