@@ -7,6 +7,8 @@
 --
 -- Departure, CallMoves and Stretches show that every call, and every stretch of calls, is a number of such moves. The rules of one state are all that they
 -- ask of the state that a stretch begins with.
+pub mod Reaching
+pub mod Reached
 pub mod Circle
 pub mod Sums
 pub mod Account
@@ -20,5 +22,3 @@ pub mod CallMoves
 pub mod Stretches
 pub mod Theorems
 pub mod Bursts
-pub mod Reaching
-pub mod Reached
