@@ -1,5 +1,5 @@
--- What is proved of the order layer. A reader of promises looks at Settled (no second outcome meets a contract) and Follows (over any calls the states
--- are those of the model's chain).
+-- What is proved of the order layer. A reader of promises looks at Settled (no second outcome meets a contract) and Follows (each call of the code does
+-- what the model's call does, on the scheduler that its state stands for).
 --
 -- The laws that function files apply: StateLaws (the whole state) and BurstLaws (burst's loop).
 pub mod StateLaws

@@ -1,5 +1,6 @@
 -- What is proved of the store layer. A reader of promises looks at Settled (no second outcome meets a contract), Unchanged (refusals and idle), Kept
--- (demand 2 on bytes, over the definitions' chains), Blind (stored bytes do not choose) and, in SlotLaws, that slots are apart.
+-- (demand 2 on bytes, over the definitions' chains), Rows (its refusals, alone and two at once), Blind (stored bytes do not choose) and, in SlotLaws, that
+-- slots are apart.
 pub mod Rows
 pub mod Settled
 pub mod Unchanged
