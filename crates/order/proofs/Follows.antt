@@ -151,6 +151,9 @@ has-outcome c s S (offering f size) =
 has-outcome c s S departing =
     (_, _, departs {r = departedAs (view c)} (record { outcome = refl; sound = sound-of _ (departed-keeps (view c) (sound-of-standing S .rules)) }))
 has-outcome c s S (bursting n list) =
-    let singles = singles-exist n c s S in
-    (_, _, bursts {r = countedAs (burst (view c) n list)}
-    (record { outcome = refl; written = refl; sound = sound-of _ (burst-keeps (view c) n list (sound-of-standing S .rules)) }) (singles .2))
+    let singles = singles-exist n c s S in (
+      _,
+      _,
+      bursts {r = countedAs (burst (view c) n list)}
+          (record { outcome = refl; written = refl; sound = sound-of _ (burst-keeps (view c) n list (sound-of-standing S .rules)) }) (singles .2),
+    )

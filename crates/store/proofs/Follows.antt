@@ -102,9 +102,15 @@ unfolding answeredAs departedAs siteOf
 has-outcome s m S resetting = (_, _, resets {r = siteOf newScheduler} (record { outcome = refl; sound = sound-of newScheduler new-keeps }))
 has-outcome s m S (opening f weight) =
     (_, _, opens {r = answeredAs _ _} (record { outcome = refl; sound = sound-of _ (opened-keeps (schedulerOf (s .keeper)) f weight (rules-of-site (s .keeper) (sound-of-standing S))) }))
-has-outcome s m S (offering f packet n) =
-    (_, _, offers {n = n} {r = answeredAs _ _}
-    (record { outcome = refl; stored = refl; sound = sound-of _ (offer-keeps (schedulerOf (s .keeper)) f packet (lent n (s .store)) (rules-of-site (s .keeper) (sound-of-standing S))) }))
-has-outcome s m S (departing n out) =
-    (_, _, departs {n = n} {r = departedAs _ _}
-    (record { outcome = refl; sent = refl; sound = sound-of _ (depart-keeps (schedulerOf (s .keeper)) (lent n (s .store)) out (rules-of-site (s .keeper) (sound-of-standing S))) }))
+has-outcome s m S (offering f packet n) = (
+  _,
+  _,
+  offers {n = n} {r = answeredAs _ _}
+      (record { outcome = refl; stored = refl; sound = sound-of _ (offer-keeps (schedulerOf (s .keeper)) f packet (lent n (s .store)) (rules-of-site (s .keeper) (sound-of-standing S))) }),
+)
+has-outcome s m S (departing n out) = (
+  _,
+  _,
+  departs {n = n} {r = departedAs _ _}
+      (record { outcome = refl; sent = refl; sound = sound-of _ (depart-keeps (schedulerOf (s .keeper)) (lent n (s .store)) out (rules-of-site (s .keeper) (sound-of-standing S))) }),
+)
