@@ -10,7 +10,10 @@ if command -v cargo >/dev/null 2>&1; then
     cargo build --release --offline --quiet \
         --manifest-path "$here/Cargo.toml" --target-dir "$target" >&2
 else
+    # Cargo.toml asks for overflow checks, and rustc alone does not read it: without them a number
+    # that overflows would go on as a wrong one, and the witness with it.
     mkdir -p "$target/release"
-    rustc --edition 2021 -O --crate-name reference -o "$program" "$here/src/main.rs" >&2
+    rustc --edition 2021 -O -C overflow-checks=on --crate-name reference \
+        -o "$program" "$here/src/main.rs" >&2
 fi
 echo "$program"

@@ -17,19 +17,11 @@ replay=$(readlink -f "$1")
 count=${2:-4000}
 first=${3:-$(od -An -N4 -tu4 /dev/urandom | tr -d ' ')}
 
-# The program is built for x86-64; elsewhere the toolchain's emulator runs it.
-machine=$(uname -m)
-if [ "$machine" = x86_64 ]; then
-    set -- "$replay"
-else
-    kit=$(dirname "$(dirname "$(readlink -f "$(command -v rt)")")")
-    set -- "$kit/on/$machine/toolchain/bin/qemu-x86_64" "$replay"
-fi
-
+emulator=$("$here/emulator.sh")
 reference=$("$here/build.sh")
 keep=$(mktemp -d)
 status=0
-"$reference" against "$first" "$count" "$keep" "$@" || status=$?
+"$reference" against "$first" "$count" "$keep" ${emulator:+"$emulator"} "$replay" || status=$?
 # Removed unless a difference was left in it.
 rmdir "$keep" 2>/dev/null || true
 exit "$status"

@@ -26,7 +26,8 @@ record() {
     "$reference" replay <"$name.in" >"$name.out"
 }
 
-for case in $("$reference" cases); do
+cases=$("$reference" cases)
+for case in $cases; do
     record "$case" "$reference" case "$case"
 done
 

@@ -22,8 +22,8 @@ pub fn first_difference(
         let input = trace(kind_of(seed), seed).expect("the kind exists");
         let expected = replay(&input);
         let got = run(program, &input)?;
-        // Without an exit code a signal ended it, which is no answer even if the text is right.
-        if got.stdout != expected.as_bytes() || got.status.code().is_none() {
+        // A program that failed gave no answer, even if the text is right.
+        if got.stdout != expected.as_bytes() || !got.status.success() {
             fs::write(keep.join("input"), &input)?;
             fs::write(keep.join("expected"), &expected)?;
             fs::write(keep.join("got"), &got.stdout)?;

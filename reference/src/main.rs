@@ -2,8 +2,9 @@
 
 mod account;
 mod against;
+mod calls;
 mod cases;
-mod chain;
+mod coverage;
 mod event;
 mod limits;
 mod random;
@@ -24,11 +25,12 @@ const USAGE: &str = "\
 usage: reference replay                 event lines in, departures out
        reference kinds                  the kinds of random traces
        reference trace KIND SEED        one random trace
-       reference chain SEED CALLS       the chain of CHAIN.md
+       reference calls SEED CALLS       the random calls of CALLS.md
        reference rows                   the bench sheet on this implementation
        reference cases                  the names of the recorded cases
        reference case NAME              the input of one case
-       reference soak N                 N random traces under every rule
+       reference soak N                 N random traces and 100 times as many random calls of
+                                        each layer, under every rule and with every corner met
        reference against FIRST N DIR PROGRAM [ARG..]
                                         N seeds from FIRST through PROGRAM as well";
 
@@ -53,7 +55,7 @@ fn command(words: &[String]) -> Verdict {
         ["replay"] => run_replay(),
         ["kinds"] => print_lines(trace::KINDS.iter().map(|(name, _)| name.to_string())),
         ["trace", kind, seed] => print_trace(kind, seed.parse()?),
-        ["chain", seed, calls] => run_chain(seed.parse()?, calls.parse()?),
+        ["calls", seed, calls] => run_calls(seed.parse()?, calls.parse()?),
         ["rows"] => run_rows(),
         ["cases"] => print_lines(cases::cases().into_iter().map(|case| case.name)),
         ["case", name] => print_case(name),
@@ -83,9 +85,9 @@ fn print_case(name: &str) -> Verdict {
     print_bytes(&case.ok_or("no such case")?.input)
 }
 
-fn run_chain(seed: u64, calls: u64) -> Verdict {
+fn run_calls(seed: u32, calls: u32) -> Verdict {
     let mut output = BufWriter::new(io::stdout());
-    chain::run(seed, calls, &mut output)?;
+    calls::run(seed, calls, &mut output)?;
     output.flush()?;
     Ok(true)
 }
@@ -100,23 +102,14 @@ fn run_rows() -> Verdict {
     Ok(all)
 }
 
-/// A broken rule panics, so coming back is success.
-fn run_soak(seeds: u64) -> Verdict {
-    let reached = soak::soak_traces(seeds);
-    println!("traces={seeds} calls={}", reached.calls);
-    println!(
-        "departures={} marked={}",
-        reached.departures, reached.marked
-    );
-    println!("idle={} refused={}", reached.idle, reached.refused);
-    println!(
-        "turns left open={} arrivals in own turn={}",
-        reached.turns_left_open, reached.arrivals_in_own_turn
-    );
-    let chain_calls = 100 * seeds;
-    soak::soak_chain(seeds, chain_calls);
-    println!("chain calls={chain_calls}");
-    Ok(true)
+/// A broken rule panics, so what can still be missing is something that was never met.
+fn run_soak(seeds: u32) -> Verdict {
+    let mut all = true;
+    for coverage in soak::soak(seeds) {
+        coverage.print();
+        all &= coverage.is_whole();
+    }
+    Ok(all)
 }
 
 fn run_against(first: u64, count: u64, keep: &Path, program: &[&str]) -> Verdict {

@@ -239,6 +239,16 @@ impl Scheduler {
         self.turn.map(|turn| turn.flow)
     }
 
+    /// What the open turn has sent so far; 0 where none is open.
+    pub fn sent_in_turn(&self) -> i64 {
+        self.turn.map_or(0, |turn| turn.sent)
+    }
+
+    /// Whether visits are left in the round.
+    pub fn round_runs(&self) -> bool {
+        self.visit_count > 0
+    }
+
     pub fn weight(&self, flow: i64) -> Option<i64> {
         self.flows.get(&flow).map(|entry| entry.weight)
     }

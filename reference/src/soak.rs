@@ -1,183 +1,162 @@
-//! The reference against itself: random traces and chains under every rule of document 01.
+//! The reference against itself: random traces and random calls under every rule.
+
+mod copies;
+mod watch;
 
 use crate::account::Account;
-use crate::chain::{Chain, Step};
+use crate::calls::{Made, OrderCalls, Part, StoreCalls};
+use crate::coverage::Coverage;
 use crate::event::{events, Event};
-use crate::limits::{FLOWS, QUEUE};
-use crate::scheduler::{Departure, Scheduler};
-use crate::store::slot_start;
+use crate::scheduler::Scheduler;
 use crate::trace::{kind_of, trace};
-use std::collections::VecDeque;
+use copies::Copies;
+use watch::{Watch, ORDER_CALLS, STORE_CALLS, TRACES};
 
-/// What the traces brought about, to see that they reach the corners.
-#[derive(Default)]
-pub struct Coverage {
-    pub calls: u64,
-    pub departures: u64,
-    pub refused: u64,
-    pub idle: u64,
-    pub marked: u64,
-    pub turns_left_open: u64,
-    pub arrivals_in_own_turn: u64,
+/// Random calls of each layer for each trace.
+const CALLS_PER_TRACE: u32 = 100;
+
+/// The traces of the seeds below `seeds`, and random calls. Panics if a rule is broken.
+pub fn soak(seeds: u32) -> [Coverage; 3] {
+    let calls = CALLS_PER_TRACE * seeds;
+    [
+        soak_traces(seeds),
+        soak_order_calls(seeds, calls),
+        soak_store_calls(seeds, calls),
+    ]
 }
 
-/// Runs the trace of each seed below `seeds`. Panics if a rule is broken.
-pub fn soak_traces(seeds: u64) -> Coverage {
-    let mut coverage = Coverage::default();
-    for seed in 0..seeds {
+fn soak_traces(seeds: u32) -> Coverage {
+    let mut watch = Watch::new(format!("{seeds} traces"), TRACES);
+    for seed in (0..seeds).map(u64::from) {
         let input = trace(kind_of(seed), seed).expect("the kind exists");
-        let mut run = Run::new(&mut coverage);
+        let mut run = Run::new(&mut watch);
         for event in events(&input).map_while(|event| event) {
             run.event(event);
         }
     }
-    coverage
+    watch.coverage
 }
 
+/// One trace, beside demand 3's account.
 struct Run<'a> {
     scheduler: Scheduler,
     account: Account,
-    coverage: &'a mut Coverage,
+    watch: &'a mut Watch,
 }
 
 impl<'a> Run<'a> {
-    fn new(coverage: &'a mut Coverage) -> Self {
+    fn new(watch: &'a mut Watch) -> Self {
         Run {
             scheduler: Scheduler::new(),
             account: Account::new(),
-            coverage,
+            watch,
         }
     }
 
     fn event(&mut self, event: Event) {
         match event {
             Event::Open { flow, weight } => {
-                let done = self.scheduler.open(flow, weight).is_ok();
-                self.called(done);
+                let reply = self.scheduler.open(flow, weight);
+                self.watch.opened(reply);
             }
-            Event::Arrive { flow, size } => {
-                let in_own_turn = self.scheduler.serving() == Some(flow);
-                let done = self.scheduler.offer(flow, size).is_ok();
-                if done {
-                    self.account.accepted(flow, &self.scheduler);
-                    self.coverage.arrivals_in_own_turn += u64::from(in_own_turn);
-                }
-                self.called(done);
-            }
+            Event::Arrive { flow, size } => self.arrive(flow, size),
             Event::Send { count } => self.send(count),
         }
+        self.scheduler.assert_rules();
+    }
+
+    fn arrive(&mut self, flow: i64, size: i64) {
+        self.watch.before(&self.scheduler);
+        let reply = self.scheduler.offer(flow, size);
+        if reply.is_ok() {
+            self.account.accepted(flow, &self.scheduler);
+        }
+        self.watch.offered(flow, reply, &self.scheduler);
     }
 
     fn send(&mut self, count: i64) {
         for _ in 0..count {
+            self.watch.before(&self.scheduler);
             let departure = self.scheduler.depart();
-            self.called(true);
+            self.watch.departed(&departure, &self.scheduler);
+            self.scheduler.assert_rules();
             match departure {
-                Some(departure) => self.departed(&departure),
-                None => {
-                    self.coverage.idle += 1;
-                    return;
-                }
+                Some(departure) => self.account.departed(&departure, &self.scheduler),
+                None => return,
             }
         }
     }
-
-    fn departed(&mut self, departure: &Departure) {
-        self.account.departed(departure, &self.scheduler);
-        self.coverage.departures += 1;
-        self.coverage.marked += u64::from(departure.mark > 0);
-        self.coverage.turns_left_open += u64::from(self.scheduler.serving().is_some());
-    }
-
-    fn called(&mut self, done: bool) {
-        self.scheduler.assert_rules();
-        self.coverage.calls += 1;
-        self.coverage.refused += u64::from(!done);
-    }
 }
 
-/// Runs a chain beside plain copies of what was accepted. Panics if a byte or a rule is broken.
-pub fn soak_chain(seed: u64, calls: u64) {
-    let mut chain = Chain::new(seed);
-    let mut copies = Copies::new(&chain);
+/// Each burst is made again by single calls.
+fn soak_order_calls(seed: u32, calls: u32) -> Coverage {
+    let mut watch = Watch::new(format!("{calls} order calls"), ORDER_CALLS);
+    let mut part = OrderCalls::new(seed);
     for _ in 0..calls {
-        let before = chain.scheduler.clone();
-        let step = chain.call();
-        copies.follow(&step, &chain);
-        if !changes(&step) {
-            assert!(
-                chain.scheduler == before,
-                "a refusal or idle changed the state"
+        let (before, mut list) = (part.scheduler.clone(), part.list);
+        watch.before(&before);
+        let made = part.call();
+        watch.made(&made, &part.scheduler);
+        assert_unchanged(&made, &before, &part.scheduler);
+        if let Made::Burst {
+            asked,
+            reply: Ok(count),
+            ..
+        } = made
+        {
+            let mut single = before;
+            assert_eq!(
+                single_calls(asked, &mut single, &mut list, &mut watch),
+                count
             );
+            assert!(part.scheduler == single, "a burst is not its single calls");
         }
-        assert!(chain.store == copies.store, "the store is not as expected");
-        assert!(
-            chain.outgoing[..] == copies.outgoing[..],
-            "outgoing is not as expected"
-        );
-        chain.scheduler.assert_rules();
+        assert!(part.list == list, "the list is not as expected");
+        part.scheduler.assert_rules();
     }
+    watch.coverage
 }
 
-fn changes(step: &Step) -> bool {
-    matches!(
-        step,
-        Step::Reset
-            | Step::Open(Ok(()))
-            | Step::Offer { reply: Ok(()), .. }
-            | Step::Departure(Ok(Some(_)))
-    )
-}
-
-/// The buffers as they should be, kept without the store layer.
-struct Copies {
-    store: Vec<u8>,
-    outgoing: Vec<u8>,
-    /// Each flow's accepted and not yet departed packets.
-    packets: Vec<VecDeque<Vec<u8>>>,
-    /// How many packets of each flow were accepted since the last reset.
-    accepted: Vec<i64>,
-}
-
-impl Copies {
-    fn new(chain: &Chain) -> Self {
-        Copies {
-            store: chain.store.clone(),
-            outgoing: chain.outgoing.to_vec(),
-            packets: vec![VecDeque::new(); FLOWS as usize],
-            accepted: vec![0; FLOWS as usize],
+/// Up to so many departures, their flows in the list. Gives how many there were.
+fn single_calls(
+    asked: usize,
+    scheduler: &mut Scheduler,
+    list: &mut [u8],
+    watch: &mut Watch,
+) -> usize {
+    for (made, entry) in list.iter_mut().enumerate().take(asked) {
+        watch.before(scheduler);
+        let departure = scheduler.depart();
+        watch.departed(&departure, scheduler);
+        match departure {
+            Some(departure) => *entry = departure.flow as u8,
+            None => return made,
         }
     }
+    asked
+}
 
-    fn follow(&mut self, step: &Step, chain: &Chain) {
-        match step {
-            Step::Reset => {
-                self.packets.iter_mut().for_each(VecDeque::clear);
-                self.accepted.fill(0);
-            }
-            Step::Offer {
-                flow,
-                length,
-                reply: Ok(()),
-            } => self.accept(*flow, &chain.packet[..*length]),
-            Step::Departure(Ok(Some(departure))) => self.release(departure),
-            _ => {}
-        }
+/// The store and the outgoing buffer are held to plain copies of what was accepted.
+fn soak_store_calls(seed: u32, calls: u32) -> Coverage {
+    let mut watch = Watch::new(format!("{calls} store calls"), STORE_CALLS);
+    let mut part = StoreCalls::new(seed);
+    let mut copies = Copies::new(&part);
+    for _ in 0..calls {
+        let before = part.scheduler.clone();
+        watch.before(&before);
+        let made = part.call();
+        watch.made(&made, &part.scheduler);
+        copies.follow(&made, &part);
+        assert_unchanged(&made, &before, &part.scheduler);
+        part.scheduler.assert_rules();
     }
+    watch.coverage
+}
 
-    fn accept(&mut self, flow: i64, packet: &[u8]) {
-        let count = &mut self.accepted[flow as usize];
-        let start = slot_start(flow, *count % QUEUE);
-        self.store[start..start + packet.len()].copy_from_slice(packet);
-        self.packets[flow as usize].push_back(packet.to_vec());
-        *count += 1;
-    }
-
-    fn release(&mut self, departure: &Departure) {
-        let packet = self.packets[departure.flow as usize]
-            .pop_front()
-            .expect("the departed packet was accepted");
-        assert_eq!(packet.len() as i64, departure.size);
-        self.outgoing[..packet.len()].copy_from_slice(&packet);
+/// A refusal and idle change no scheduler.
+fn assert_unchanged(made: &Made, before: &Scheduler, after: &Scheduler) {
+    let idle = matches!(made, Made::Departure(Ok(None)));
+    if idle || made.reply().is_err() {
+        assert!(before == after, "a refusal or idle changed the scheduler");
     }
 }

@@ -1,2 +1,0 @@
--- Prefix: how long the first bytes of a buffer are.
-mod Prefix
