@@ -27,19 +27,33 @@ pub enum Made {
     Departure(Result<Option<Departure>, Refusal>),
     Burst {
         asked: usize,
-        room: usize,
+        lent: usize,
         reply: Result<usize, Refusal>,
     },
 }
 
 impl Made {
-    /// Whether it was refused.
-    pub fn reply(&self) -> Result<(), Refusal> {
+    pub fn refusal(&self) -> Option<Refusal> {
         match self {
-            Made::Reset => Ok(()),
-            Made::Open(reply) | Made::Offer { reply, .. } => *reply,
-            Made::Departure(reply) => reply.map(|_departure| ()),
-            Made::Burst { reply, .. } => reply.map(|_count| ()),
+            Made::Reset => None,
+            Made::Open(reply) | Made::Offer { reply, .. } => reply.err(),
+            Made::Departure(reply) => reply.err(),
+            Made::Burst { reply, .. } => reply.err(),
+        }
+    }
+
+    /// The number that CALLS.md gives to the reply.
+    fn number(&self) -> u8 {
+        if let Some(refusal) = self.refusal() {
+            return refusal.number();
+        }
+        match self {
+            Made::Reset => 10,
+            Made::Open(_) => 11,
+            Made::Offer { .. } => 12,
+            Made::Departure(Ok(Some(_))) => 13,
+            Made::Departure(_) => 14,
+            Made::Burst { .. } => 15,
         }
     }
 }
@@ -50,17 +64,18 @@ pub trait Part {
 
     fn call(&mut self) -> Made;
 
-    /// What was lent to this call to be written in: all of it, also what was not lent.
+    /// The whole of the buffer that was lent to this call to be written in, if one was.
     fn lent(&self, made: &Made) -> &[u8];
 
-    /// What is looked at with every line.
+    /// The buffer that is looked at with every line.
     fn kept(&self) -> &[u8];
 }
 
 pub fn run(seed: u32, calls: u32, output: &mut impl Write) -> io::Result<()> {
     run_part(&mut OrderCalls::new(seed), calls, output)?;
     run_part(&mut StoreCalls::new(seed), calls, output)?;
-    writeln!(output, "row={}", short_store_and_outgoing())
+    let number = short_store_and_outgoing().number();
+    writeln!(output, "row={number}")
 }
 
 fn run_part<P: Part>(part: &mut P, calls: u32, output: &mut impl Write) -> io::Result<()> {
@@ -71,20 +86,16 @@ fn run_part<P: Part>(part: &mut P, calls: u32, output: &mut impl Write) -> io::R
         record.fold_all(part.lent(&made));
         if n % CALLS_PER_LINE == 0 || n == calls {
             record.fold_all(part.kept());
-            let (name, check, made) = (P::NAME, record.check, record.departures);
-            writeln!(output, "{name} calls={n} check={check} departures={made}")?;
+            let (name, check) = (P::NAME, record.check);
+            writeln!(output, "{name} calls={n} check={check}")?;
         }
     }
     record.print_counts(P::NAME, output)
 }
 
-/// The bench sheet's last row: which refusal a departure gives where store and outgoing buffer
-/// are both short; 0 if it gives none.
-fn short_store_and_outgoing() -> u8 {
+/// The bench sheet's row on the store's length.
+fn short_store_and_outgoing() -> Made {
     let mut scheduler = Scheduler::new();
     let (store, mut outgoing) = (vec![0; STORE - 1], [0; 255]);
-    match crate::store::depart(&mut scheduler, &store, &mut outgoing) {
-        Ok(_) => 0,
-        Err(refusal) => refusal.number(),
-    }
+    Made::Departure(crate::store::depart(&mut scheduler, &store, &mut outgoing))
 }

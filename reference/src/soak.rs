@@ -156,7 +156,7 @@ fn soak_store_calls(seed: u32, calls: u32) -> Coverage {
 /// A refusal and idle change no scheduler.
 fn assert_unchanged(made: &Made, before: &Scheduler, after: &Scheduler) {
     let idle = matches!(made, Made::Departure(Ok(None)));
-    if idle || made.reply().is_err() {
+    if idle || made.refusal().is_some() {
         assert!(before == after, "a refusal or idle changed the scheduler");
     }
 }

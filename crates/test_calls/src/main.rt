@@ -1,31 +1,28 @@
 // Random calls of both layers, as reference/CALLS.md defines them, from a seed and a number of calls; then the bench row on the store's length. What
 // it prints is held to what the independent program prints.
+use libc::STDERR_FILENO;
+use libc::STDOUT_FILENO;
 use store::STORE_LENGTH;
 use store::Site;
-use test_draws::fills;
-use test_sums::counts;
-use test_sums::lines;
-use test_sums::words;
-use test_sums::words::Word;
+use test_runs::fills;
+use test_runs::lines;
+use test_runs::sums;
+use words::Word;
 
-mod lent;
-mod order_part;
-mod store_part;
+mod words;
 
-// The list that bursts write in, of which they are lent the first bytes.
-const LIST_LENGTH: usize = 304;
+const LIST_LENGTH: usize = 272;
 
-// The store's bytes, and four behind them, so that too long a store can be lent.
-const STORE_ROOM: usize = STORE_LENGTH + 4;
+// The store's bytes, and two behind them, so that too long a store can be lent.
+const STORE_ROOM: usize = STORE_LENGTH + 2;
 
-// The outgoing buffer, of which departures are lent the first bytes.
-const OUT_ROOM: usize = 300;
+const OUT_ROOM: usize = 258;
 
 fn order_run(seed: u32, calls: u64) {
     let mut list = [0u8; LIST_LENGTH];
     fills::rising(&mut list, 0, 5);
-    let made = order_part::run(seed, calls, &mut list);
-    counts::print(b"order", &made);
+    let counts = test_order::run(b"order", seed, calls, &mut list);
+    sums::print_counts(b"order", &counts);
 }
 
 fn store_run(seed: u32, calls: u64) {
@@ -33,18 +30,27 @@ fn store_run(seed: u32, calls: u64) {
     fills::rows(&mut store);
     let mut out = [0u8; OUT_ROOM];
     fills::rising(&mut out, 0, 3);
-    let made = store_part::run(seed, calls, &mut store, &mut out);
-    counts::print(b"store", &made);
+    let counts = test_store::run(b"store", seed, calls, &mut store, &mut out);
+    sums::print_counts(b"store", &counts);
 }
 
 // A store one byte short and an outgoing buffer one byte short: the store is looked at first.
-fn both_short() {
+fn row() {
     let store = [0u8; STORE_LENGTH - 1];
     let mut out = [0u8; 255];
     let site = Site::new();
     let left = site.depart(&store, &mut out);
     let reply = left.reply;
-    lines::row_line(reply);
+    let folded = sums::departed(sums::UNFOLDED, reply);
+    lines::number(b"row=", folded.number as u64);
+    io::write_all(STDOUT_FILENO, b"\n");
+}
+
+fn usage() {
+    io::write_all(
+        STDERR_FILENO,
+        b"usage: test_calls SEED CALLS, two numbers from 0 to 4294967295\n",
+    );
 }
 
 fn main() {
@@ -55,10 +61,10 @@ fn main() {
             if let Word::Number(c) = calls {
                 order_run(s, c as u64);
                 store_run(s, c as u64);
-                both_short();
+                row();
                 return;
             }
         }
     }
-    lines::usage();
+    usage();
 }

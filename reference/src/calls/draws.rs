@@ -1,25 +1,112 @@
 //! The numbers that CALLS.md draws.
 
-use crate::limits::STORE;
-use std::cmp::min;
-
-pub const LIST: usize = 304;
-pub const LONGEST_PACKET: usize = 258;
 const CALLS_PER_PHASE: u64 = 256;
 
-/// A multiplicative generator over a prime, which every draw moves on.
+/// What a call is made with. Every call draws all of it and uses what it needs.
+pub struct Numbers {
+    pub kind: Kind,
+    pub flow: i64,
+    pub weight: i64,
+    /// A packet's length, and a size in the order layer, where it is a number.
+    pub length: usize,
+    pub size: i64,
+    /// How many departures a burst asks for.
+    pub asked: usize,
+    // How many bytes of the list, the store and the outgoing buffer are lent.
+    pub list: usize,
+    pub store: usize,
+    pub outgoing: usize,
+    // The first byte of a packet, and the step from byte to byte.
+    pub first: usize,
+    pub step: usize,
+}
+
+/// The store layer has no burst and makes a departure instead.
+pub enum Kind {
+    Reset,
+    Open,
+    Offer,
+    Departure,
+    Burst,
+}
+
+/// A multiplicative generator over a prime.
 pub struct Draws {
     x: u64,
+    seed: u64,
+    calls: u64,
+}
+
+/// Stretches of many offers and of few, to many flows and to few.
+struct Phase {
+    width: u64,
+    opens: u64,
+    load: u64,
+}
+
+impl Phase {
+    fn new(number: u64) -> Self {
+        Phase {
+            width: 1 + 7 * number % 34,
+            opens: 1 + 37 * number % 256,
+            load: 768 + 397 * number % 1024,
+        }
+    }
+
+    fn kind(&self, r: u64) -> Kind {
+        match r {
+            0 => Kind::Reset,
+            r if r <= self.opens => Kind::Open,
+            r if r <= self.opens + self.load => Kind::Offer,
+            r if r % 4 == 0 => Kind::Burst,
+            _ => Kind::Departure,
+        }
+    }
 }
 
 impl Draws {
     pub fn new(seed: u32) -> Self {
+        let seed = u64::from(seed);
         Draws {
-            x: 1 + u64::from(seed) % 2_147_483_646,
+            x: 1 + seed % 2_147_483_646,
+            seed,
+            calls: 0,
         }
     }
 
-    pub fn draw(&mut self, n: u64) -> u64 {
+    pub fn next(&mut self) -> Numbers {
+        let phase = Phase::new(self.seed + self.calls / CALLS_PER_PHASE);
+        self.calls += 1;
+        let r = self.draw(2048);
+        let flow = self.draw(phase.width);
+        let flow = self.far(flow);
+        let weight = self.draw(18);
+        let weight = self.far(weight);
+        let length = self.length();
+        let size = self.far(length);
+        let asked = self.draw(12);
+        let asked = self.far(asked);
+        let list = asked + self.draw(3);
+        let list = self.near(list);
+        let store = self.near(65_536);
+        let outgoing = self.near(256);
+        let bytes = self.draw(65_536);
+        Numbers {
+            kind: phase.kind(r),
+            flow: flow as i64,
+            weight: weight as i64,
+            length: length as usize,
+            size: size as i64,
+            asked: asked as usize,
+            list: list as usize,
+            store: store as usize,
+            outgoing: outgoing as usize,
+            first: bytes as usize % 256,
+            step: bytes as usize / 256,
+        }
+    }
+
+    fn draw(&mut self, n: u64) -> u64 {
         self.x = self.x * 48_271 % 2_147_483_647;
         self.x % n
     }
@@ -34,110 +121,21 @@ impl Draws {
         }
     }
 
-    /// A number below n, seldom far above it.
-    pub fn far_below(&mut self, n: u64) -> i64 {
-        let value = self.draw(n);
-        self.far(value) as i64
-    }
-
-    /// A packet's length.
-    pub fn length(&mut self) -> usize {
-        match self.draw(32) as usize {
-            k @ 0..=3 => 255 + k,
-            4 => 0,
-            5..=15 => 1 + self.draw(16) as usize,
-            _ => 1 + self.draw(256) as usize,
-        }
-    }
-
-    /// A size in the order layer, where it is a number.
-    pub fn size(&mut self) -> i64 {
-        let length = self.length() as u64;
-        self.far(length) as i64
-    }
-
-    /// How many departures a burst asks for.
-    pub fn asked(&mut self) -> usize {
-        let near = match self.draw(16) {
-            0 => 0,
-            1 => 257 + self.draw(44),
-            2 => self.draw(65),
-            _ => 1 + self.draw(6),
-        };
-        self.far(near) as usize
-    }
-
-    /// How many bytes of the list are lent to a burst that asks for so many departures.
-    pub fn list_room(&mut self, asked: usize) -> usize {
-        let wanted = match self.draw(8) {
-            0 => asked.saturating_sub(1),
-            1 => self.draw(305) as usize,
-            2..=4 => asked,
-            _ => asked + self.draw(4) as usize,
-        };
-        min(wanted, LIST)
-    }
-
-    /// How many bytes of the store are lent.
-    pub fn store_lent(&mut self) -> usize {
+    /// The length wanted, seldom up to two more or less, or none.
+    fn near(&mut self, wanted: u64) -> u64 {
         match self.draw(64) {
-            0 => STORE - 1,
-            1 => STORE + 1,
-            2 => self.draw(65_536) as usize,
-            _ => STORE,
+            k @ 0..=4 => (wanted + k).saturating_sub(2),
+            5 => 0,
+            _ => wanted,
         }
     }
 
-    /// How many bytes of the outgoing buffer are lent.
-    pub fn outgoing_room(&mut self) -> usize {
-        match self.draw(16) {
-            0 => self.draw(256) as usize,
-            1 => 255,
-            2..=7 => 256,
-            8..=9 => 257,
-            _ => 256 + self.draw(45) as usize,
-        }
-    }
-}
-
-/// Which call comes next.
-pub enum Kind {
-    Reset,
-    Open,
-    Offer,
-    Departure,
-}
-
-/// Stretches of many offers and of few, to many flows and to few.
-pub struct Phases {
-    calls: u64,
-    pub width: u64,
-    opens: u64,
-    load: u64,
-}
-
-impl Phases {
-    pub fn new() -> Self {
-        Phases {
-            calls: 0,
-            width: 0,
-            opens: 0,
-            load: 0,
-        }
-    }
-
-    pub fn next(&mut self, draws: &mut Draws) -> Kind {
-        if self.calls % CALLS_PER_PHASE == 0 {
-            self.width = 1 + draws.draw(34);
-            self.opens = 1 + draws.draw(256);
-            self.load = 768 + draws.draw(1024);
-        }
-        self.calls += 1;
-        match draws.draw(2048) {
-            0 => Kind::Reset,
-            r if r <= self.opens => Kind::Open,
-            r if r <= self.opens + self.load => Kind::Offer,
-            _ => Kind::Departure,
+    /// A packet's length: often small, and often around the longest.
+    fn length(&mut self) -> u64 {
+        match self.draw(8) {
+            0..=2 => self.draw(17),
+            3 => 250 + self.draw(9),
+            _ => self.draw(259),
         }
     }
 }

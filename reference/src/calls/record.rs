@@ -1,85 +1,40 @@
 //! What was replied: a running checksum, and how often each reply was given.
 
 use super::Made;
-use crate::scheduler::{Departure, Refusal};
+use crate::scheduler::Departure;
 use std::io::{self, Write};
+
+/// The last of the numbers that CALLS.md gives to replies.
+const LAST: usize = 15;
 
 pub struct Record {
     pub check: u64,
-    /// The departures made, those of bursts among them.
-    pub departures: u64,
-    reset: u64,
-    opened: u64,
-    accepted: u64,
-    departed: u64,
-    idle: u64,
-    burst: u64,
-    refused: [u64; 9],
+    /// By the reply's number, from 1 on.
+    counts: [u64; LAST + 1],
 }
 
 impl Record {
     pub fn new() -> Self {
         Record {
             check: 2_166_136_261,
-            departures: 0,
-            reset: 0,
-            opened: 0,
-            accepted: 0,
-            departed: 0,
-            idle: 0,
-            burst: 0,
-            refused: [0; 9],
+            counts: [0; LAST + 1],
         }
     }
 
     pub fn add(&mut self, made: &Made) {
-        match made.reply() {
-            Ok(()) => self.add_done(made),
-            Err(refusal) => self.add_refusal(refusal),
-        }
-    }
-
-    fn add_refusal(&mut self, refusal: Refusal) {
-        self.refused[usize::from(refusal.number()) - 1] += 1;
-        self.fold(u64::from(refusal.number()));
-    }
-
-    /// A call that was not refused.
-    fn add_done(&mut self, made: &Made) {
+        let number = made.number();
+        self.counts[usize::from(number)] += 1;
+        self.fold(u64::from(number));
         match made {
-            Made::Reset => {
-                self.reset += 1;
-                self.fold(0);
-            }
-            Made::Open(_) => {
-                self.opened += 1;
-                self.fold(0);
-            }
-            Made::Offer { .. } => {
-                self.accepted += 1;
-                self.fold(0);
-            }
-            Made::Departure(Ok(Some(departure))) => {
-                self.departed += 1;
-                self.departures += 1;
-                self.fold_departure(departure);
-            }
-            Made::Departure(_) => {
-                self.idle += 1;
-                self.fold(16);
-            }
-            Made::Burst { reply, .. } => {
-                let count = reply.unwrap_or(0);
-                self.burst += 1;
-                self.departures += count as u64;
-                self.fold(18);
-                self.fold_two(count as u64);
-            }
+            Made::Departure(Ok(Some(departure))) => self.fold_departure(departure),
+            Made::Burst {
+                reply: Ok(count), ..
+            } => self.fold_two(*count as u64),
+            _ => {}
         }
     }
 
     fn fold_departure(&mut self, departure: &Departure) {
-        self.fold(17);
         self.fold(departure.flow as u64);
         self.fold_two(departure.size as u64);
         self.fold(departure.mark as u64);
@@ -103,15 +58,10 @@ impl Record {
     }
 
     pub fn print_counts(&self, part: &str, output: &mut impl Write) -> io::Result<()> {
-        writeln!(output, "{part} reset count={}", self.reset)?;
-        writeln!(output, "{part} opened count={}", self.opened)?;
-        writeln!(output, "{part} accepted count={}", self.accepted)?;
-        writeln!(output, "{part} departed count={}", self.departed)?;
-        writeln!(output, "{part} idle count={}", self.idle)?;
-        writeln!(output, "{part} burst count={}", self.burst)?;
-        for (index, count) in self.refused.iter().enumerate() {
-            writeln!(output, "{part} refused={} count={count}", index + 1)?;
+        write!(output, "{part} replies")?;
+        for count in &self.counts[1..] {
+            write!(output, " {count}")?;
         }
-        Ok(())
+        writeln!(output)
     }
 }

@@ -1,15 +1,16 @@
 //! Random calls of the store layer, on one store.
 
-use super::draws::{Draws, Kind, Phases, LONGEST_PACKET};
+use super::draws::{Draws, Kind, Numbers};
 use super::{Made, Part};
 use crate::limits::STORE;
 use crate::scheduler::Scheduler;
 use crate::store;
 
-const OUTGOING: usize = 300;
+const OUTGOING: usize = 258;
+const LONGEST_PACKET: usize = 258;
 
 /// The store, and bytes behind it, so that too long a one can be lent.
-const STORE_ROOM: usize = STORE + 4;
+const STORE_ROOM: usize = STORE + 2;
 
 pub struct StoreCalls {
     pub scheduler: Scheduler,
@@ -18,7 +19,6 @@ pub struct StoreCalls {
     /// The packet offered last, in its first bytes.
     pub packet: [u8; LONGEST_PACKET],
     draws: Draws,
-    phases: Phases,
 }
 
 impl StoreCalls {
@@ -29,28 +29,17 @@ impl StoreCalls {
             outgoing: std::array::from_fn(|i| (3 * i) as u8),
             packet: [0; LONGEST_PACKET],
             draws: Draws::new(seed),
-            phases: Phases::new(),
         }
     }
 
-    fn open(&mut self) -> Made {
-        let flow = self.draws.far_below(self.phases.width);
-        let weight = self.draws.far_below(18);
-        Made::Open(self.scheduler.open(flow, weight))
-    }
-
-    fn offer(&mut self) -> Made {
-        let flow = self.draws.far_below(self.phases.width);
-        let length = self.draws.length();
-        let first = self.draws.draw(256) as usize;
-        let step = self.draws.draw(256) as usize;
+    fn offer(&mut self, numbers: &Numbers) -> Made {
+        let (flow, length) = (numbers.flow, numbers.length);
         for (j, byte) in self.packet[..length].iter_mut().enumerate() {
-            *byte = (first + j * step) as u8;
+            *byte = (numbers.first + j * numbers.step) as u8;
         }
-        let lent = self.draws.store_lent();
         let reply = store::offer(
             &mut self.scheduler,
-            &mut self.store[..lent],
+            &mut self.store[..numbers.store],
             flow,
             &self.packet[..length],
         );
@@ -58,13 +47,11 @@ impl StoreCalls {
         Made::Offer { flow, size, reply }
     }
 
-    fn depart(&mut self) -> Made {
-        let lent = self.draws.store_lent();
-        let room = self.draws.outgoing_room();
+    fn depart(&mut self, numbers: &Numbers) -> Made {
         Made::Departure(store::depart(
             &mut self.scheduler,
-            &self.store[..lent],
-            &mut self.outgoing[..room],
+            &self.store[..numbers.store],
+            &mut self.outgoing[..numbers.outgoing],
         ))
     }
 }
@@ -73,14 +60,15 @@ impl Part for StoreCalls {
     const NAME: &'static str = "store";
 
     fn call(&mut self) -> Made {
-        match self.phases.next(&mut self.draws) {
+        let numbers = self.draws.next();
+        match numbers.kind {
             Kind::Reset => {
                 self.scheduler.reset();
                 Made::Reset
             }
-            Kind::Open => self.open(),
-            Kind::Offer => self.offer(),
-            Kind::Departure => self.depart(),
+            Kind::Open => Made::Open(self.scheduler.open(numbers.flow, numbers.weight)),
+            Kind::Offer => self.offer(&numbers),
+            Kind::Departure | Kind::Burst => self.depart(&numbers),
         }
     }
 

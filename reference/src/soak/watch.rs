@@ -73,7 +73,7 @@ impl Watch {
             Made::Offer { flow, reply, .. } => self.offered(*flow, *reply, after),
             Made::Departure(Ok(departure)) => self.departed(departure, after),
             Made::Departure(Err(refusal)) => self.refused(*refusal),
-            Made::Burst { asked, room, reply } => self.burst(*asked, *room, *reply),
+            Made::Burst { asked, lent, reply } => self.burst(*asked, *lent, *reply),
         }
     }
 
@@ -133,7 +133,7 @@ impl Watch {
         }
     }
 
-    pub fn burst(&mut self, asked: usize, room: usize, reply: Result<usize, Refusal>) {
+    pub fn burst(&mut self, asked: usize, lent: usize, reply: Result<usize, Refusal>) {
         match reply {
             Err(refusal) => self.refused(refusal),
             Ok(_) if asked == 0 => self.coverage.met("burst of 0 asked"),
@@ -141,7 +141,7 @@ impl Watch {
             Ok(_) => self.coverage.met("burst that stopped at idle"),
         }
         self.coverage
-            .met_if(room > asked, "burst with a longer list");
+            .met_if(lent > asked, "burst with a longer list");
     }
 
     fn refused(&mut self, refusal: Refusal) {

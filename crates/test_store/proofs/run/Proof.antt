@@ -1,0 +1,69 @@
+-- Every call is made on a sound site, and buffers keep their lengths.
+use Prim.Native.Nat.{_-_}
+use mathlib.Core.Path.{_≡_}
+use lib.ListN.{length}
+use Rattle.store.specs.Promised.{SoundSite}
+use borrow.Author.Needs.{needs}
+use Rattle.test_store.proofs.run.Statement.{statement}
+use Rattle.test_store.proofs.run.Tie as tie
+
+abbrev Inv-loop : tie.InvT-loop
+Inv-loop part seed calls store₀ out₀ counts₀ site₀ x₀ check₀ n₀ store out counts site x check n = SoundSite site × (length store ≡ length store₀) × (length out ≡ length out₀)
+
+abbrev μ-loop : tie.MeasureT-loop
+μ-loop part seed calls store₀ out₀ counts₀ site₀ x₀ check₀ n₀ store out counts site x check n = calls - n
+
+new-requires : tie.Need-new-requires Inv-loop μ-loop
+new-requires c κs = search needs
+
+start-requires : tie.Need-start-requires Inv-loop μ-loop
+start-requires c κs = search needs
+
+loop-holds : tie.Need-loop-holds Inv-loop μ-loop
+loop-holds c = search needs
+
+next-requires : tie.Need-next-requires Inv-loop μ-loop
+next-requires c κs = search needs
+
+add-n : tie.Need-add-n Inv-loop μ-loop
+add-n c = search needs
+
+made-requires : tie.Need-made-requires Inv-loop μ-loop
+made-requires c κs = search needs
+
+counted-requires : tie.Need-counted-requires Inv-loop μ-loop
+counted-requires c κs = search needs
+
+loop-less : tie.Need-loop-less Inv-loop μ-loop
+loop-less c = search needs
+
+loop-again : tie.Need-loop-again Inv-loop μ-loop
+loop-again c = search needs
+
+same-length : tie.Need-same-length Inv-loop μ-loop
+same-length c = search needs
+
+same-length-2 : tie.Need-same-length-2 Inv-loop μ-loop
+same-length-2 c = search needs
+
+returns : tie.Need-returns Inv-loop μ-loop
+returns c = search needs
+
+pub run-spec : {M : Type 1} → statement M
+run-spec =
+    tie.close
+    (tie.spec
+    Inv-loop
+    μ-loop
+    new-requires
+    start-requires
+    loop-holds
+    next-requires
+    add-n
+    made-requires
+    counted-requires
+    loop-less
+    loop-again
+    same-length
+    same-length-2
+    returns)
