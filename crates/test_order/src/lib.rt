@@ -1,11 +1,11 @@
 // Random calls of the order layer: the part `order` of reference/CALLS.md.
 ghost use Rattle.order.specs.Encoding.{Sound};
 use order::State;
+use test_runs::buffers::at_most;
 use test_runs::draws::Call;
 use test_runs::draws::Kind;
 use test_runs::draws::next;
 use test_runs::draws::start;
-use test_runs::parts::at_most;
 use test_runs::sums;
 use test_runs::sums::COUNTS;
 use test_runs::sums::Folded;

@@ -148,7 +148,7 @@ fn lend(x: u32, departures: usize) -> Lent
     }
 }
 
-// The store layer has no burst and makes a departure instead.
+// Which call. The store layer has no burst, and makes a departure instead.
 pub enum Kind {
     Reset,
     Open,
@@ -157,7 +157,7 @@ pub enum Kind {
     Burst,
 }
 
-// By phases: stretches of many offers and of few.
+// Phases differ in how many of 2,048 calls open and how many offer.
 fn kind_of(phase: u64, r: u64) -> Kind {
     let opens = 1 + phase % 256 * 37 % 256;
     let load = 768 + phase % 1024 * 397 % 1024;
@@ -176,7 +176,7 @@ fn kind_of(phase: u64, r: u64) -> Kind {
     Kind::Depart
 }
 
-// A call, with the generator's number behind it.
+// A call and what it is made with, as in Asked and Lent, and the generator's number after its draws.
 pub struct Call {
     pub x: u32,
     pub kind: Kind,
@@ -197,7 +197,7 @@ pub fn start(seed: u32) -> u32 {
     1 + seed % 2147483646
 }
 
-// The call behind n others. A phase has 256 calls, and says also how many flows there are to draw from.
+// The call that comes after n others. Phases of 256 calls also differ in how many flows there are to draw from.
 pub fn next(x: u32, seed: u32, n: u64) -> Call {
     let phase = n / 256 + seed as u64;
     let r = draw(x, 2048);

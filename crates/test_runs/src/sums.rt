@@ -1,6 +1,6 @@
 // The checksum of what calls reply, and how often each reply was given.
 use crate::lines::check_line;
-use crate::lines::number;
+use crate::lines::named;
 use libc::STDOUT_FILENO;
 use model::Answer;
 use model::Count;
@@ -53,7 +53,7 @@ fn fold_two(check: u32, v: u16) -> u32 {
     fold(fold(check, v % 256), v / 256)
 }
 
-// A reply that is told by its number alone.
+// A reply of which nothing but its number is folded.
 pub fn plain(check: u32, number: u8) -> Folded {
     Folded {
         check: fold(check, number as u16),
@@ -144,7 +144,7 @@ pub fn print_counts(part: &[u8], counts: &[u64; COUNTS]) {
     io::write_all(STDOUT_FILENO, b" replies");
     let mut k: usize = 1;
     while k < COUNTS {
-        number(b" ", counts[k]);
+        named(b" ", counts[k]);
         k += 1;
     }
     io::write_all(STDOUT_FILENO, b"\n");

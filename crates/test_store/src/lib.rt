@@ -1,12 +1,12 @@
 // Random calls of the store layer: the part `store` of reference/CALLS.md.
 ghost use Rattle.store.specs.Promised.{SoundSite};
 use store::Site;
+use test_runs::buffers::at_most;
+use test_runs::buffers::rising;
 use test_runs::draws::Call;
 use test_runs::draws::Kind;
 use test_runs::draws::next;
 use test_runs::draws::start;
-use test_runs::fills::rising;
-use test_runs::parts::at_most;
 use test_runs::sums;
 use test_runs::sums::COUNTS;
 use test_runs::sums::Folded;

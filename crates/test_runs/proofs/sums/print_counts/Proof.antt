@@ -22,17 +22,17 @@ write-all-requires-2 c κs = search needs
 loop-holds : tie.Need-loop-holds Inv-loop μ-loop
 loop-holds c = search needs
 
-slice-aggregate-number : tie.Need-slice-aggregate-number Inv-loop μ-loop
-slice-aggregate-number c = search needs
+slice-aggregate-named : tie.Need-slice-aggregate-named Inv-loop μ-loop
+slice-aggregate-named c = search needs
 
-mul-number : tie.Need-mul-number Inv-loop μ-loop
-mul-number c = search needs
+mul-named : tie.Need-mul-named Inv-loop μ-loop
+mul-named c = search needs
 
-element-copy-out-number : tie.Need-element-copy-out-number Inv-loop μ-loop
-element-copy-out-number c = search needs
+element-copy-out-named : tie.Need-element-copy-out-named Inv-loop μ-loop
+element-copy-out-named c = search needs
 
-number-requires : tie.Need-number-requires Inv-loop μ-loop
-number-requires c κs = search needs
+named-requires : tie.Need-named-requires Inv-loop μ-loop
+named-requires c κs = search needs
 
 add-k : tie.Need-add-k Inv-loop μ-loop
 add-k c = search needs
@@ -62,10 +62,10 @@ print-counts-spec =
     slice-aggregate-write-all
     write-all-requires-2
     loop-holds
-    slice-aggregate-number
-    mul-number
-    element-copy-out-number
-    number-requires
+    slice-aggregate-named
+    mul-named
+    element-copy-out-named
+    named-requires
     add-k
     loop-less
     loop-again

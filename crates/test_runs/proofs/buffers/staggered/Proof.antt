@@ -1,28 +1,31 @@
--- Every index is within the buffer.
+-- The buffer's length bounds every sum.
 use Prim.Native.Nat.{_-_, _≤_}
 use mathlib.Core.Path.{_≡_}
 use lib.ListN.{length}
 use borrow.Author.Needs.{needs}
-use Rattle.test_runs.proofs.fills.rising.Statement.{statement}
-use Rattle.test_runs.proofs.fills.rising.Tie as tie
+use Rattle.test_runs.proofs.buffers.staggered.Statement.{statement}
+use Rattle.test_runs.proofs.buffers.staggered.Tie as tie
 
 abbrev Inv-loop : tie.InvT-loop
-Inv-loop bytes₀ first step byte₀ j₀ bytes byte j = (j ≤ length bytes₀) × (length bytes ≡ length bytes₀)
+Inv-loop bytes₀ i₀ bytes i = (i ≤ length bytes₀) × (length bytes ≡ length bytes₀)
 
 abbrev μ-loop : tie.MeasureT-loop
-μ-loop bytes₀ first step byte₀ j₀ bytes byte j = length bytes₀ - j
+μ-loop bytes₀ i₀ bytes i = length bytes₀ - i
 
 loop-holds : tie.Need-loop-holds Inv-loop μ-loop
 loop-holds c = search needs
 
+add-bytes : tie.Need-add-bytes Inv-loop μ-loop
+add-bytes c = search needs
+
+cast-bytes : tie.Need-cast-bytes Inv-loop μ-loop
+cast-bytes c = search needs
+
 slice-write-bytes : tie.Need-slice-write-bytes Inv-loop μ-loop
 slice-write-bytes c = search needs
 
-wrapping-add-u8-requires : tie.Need-wrapping-add-u8-requires Inv-loop μ-loop
-wrapping-add-u8-requires c κs = search needs
-
-add-j : tie.Need-add-j Inv-loop μ-loop
-add-j c = search needs
+add-i : tie.Need-add-i Inv-loop μ-loop
+add-i c = search needs
 
 loop-less : tie.Need-loop-less Inv-loop μ-loop
 loop-less c = search needs
@@ -36,16 +39,17 @@ same-length c = search needs
 returns : tie.Need-returns Inv-loop μ-loop
 returns c = search needs
 
-pub rising-spec : {M : Type 1} → statement M
-rising-spec =
+pub staggered-spec : {M : Type 1} → statement M
+staggered-spec =
     tie.close
     (tie.spec
     Inv-loop
     μ-loop
     loop-holds
+    add-bytes
+    cast-bytes
     slice-write-bytes
-    wrapping-add-u8-requires
-    add-j
+    add-i
     loop-less
     loop-again
     same-length
