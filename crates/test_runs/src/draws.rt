@@ -1,5 +1,5 @@
 // The numbers that a call is made with. Every call draws all of them and uses those it needs.
-ghost use Prim.Native.Nat.{_<_, _≤_};
+ghost use Prim.Native.Nat.{_<_};
 
 // The generator's number and what was drawn by it.
 struct Drawn {
