@@ -23,11 +23,12 @@ use Rattle.model.specs.declared.Sent.{Sent}
 use Rattle.model.proofs.Keeps.{departed-keeps}
 use Rattle.steps.specs.Cells.{viewFlow}
 use Rattle.order.specs.Encoding.{encode, view, Sound}
-use Rattle.steps.specs.Premises.{viewRound, encodeVisit, visitInPlace}
+use Rattle.steps.specs.Premises.{viewRound}
+use Rattle.turns.specs.Visits.{encodeVisit, visitInPlace}
 use Rattle.order.proofs.StateLaws.{roundOf}
 use Rattle.order.specs.Promised.{countedAs, BurstGives}
 use Rattle.order.specs.declared.State.{State}
-use Rattle.steps.specs.declared.Visited.{Visited}
+use Rattle.turns.specs.declared.Visited.{Visited}
 use Rattle.order.proofs.StateLaws.{noCell, seen-as, sound-of, departed-state, departed-reply}
 
 -- After `made` departures, with the state c and the list as they then are.

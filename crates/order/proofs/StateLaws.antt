@@ -25,7 +25,8 @@ use Rattle.model.proofs.Choosing.{positive-chosen, chosen-has}
 use Rattle.steps.specs.Cells.{encodeFlow, viewFlow}
 use Rattle.order.specs.Encoding.{encode, view, Sound}
 use Rattle.steps.specs.Places.{endPlace, nowhere, offeredPlace, joiningPlace, firstPlace, leavingPlace}
-use Rattle.steps.specs.Premises.{RoundInPlace, inPlace, numbersOf, encodeRound, viewRound, FlowReady, RoundReady, HasFirst, MayServe, MayBegin, MayVisit, VisitInPlace, encodeVisit, visitInPlace, OfferInPlace, withLength, offerInPlace, openedParts, offeredParts}
+use Rattle.steps.specs.Premises.{RoundInPlace, inPlace, numbersOf, encodeRound, viewRound, FlowReady, RoundReady, HasFirst, OfferInPlace, withLength, offerInPlace, openedParts, offeredParts}
+use Rattle.turns.specs.Visits.{MayServe, MayBegin, MayVisit, VisitInPlace, encodeVisit, visitInPlace}
 use Rattle.order.specs.Promised.{answeredAs, offeredAs, departedAs, NewGives, OpenGives, OfferGives, DepartGives}
 use Rattle.order.specs.declared.Answered.{Answered}
 use Rattle.steps.specs.declared.Offered.{Offered}
@@ -36,7 +37,7 @@ use Rattle.steps.specs.declared.Place.{Place}
 use Rattle.order.specs.declared.Placed.{Placed}
 use Rattle.steps.specs.declared.RoundCell.{RoundCell}
 use Rattle.order.specs.declared.State.{State}
-use Rattle.steps.specs.declared.Visited.{Visited}
+use Rattle.turns.specs.declared.Visited.{Visited}
 use Rattle.steps.proofs.Encoded.{flow-seen, flow-ready, round-seen, round-ready, waiting-is, length-is}
 
 -- The round of a state, as the steps have it.

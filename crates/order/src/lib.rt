@@ -13,7 +13,6 @@ use steps::Place;
 use steps::RoundCell;
 use steps::ask;
 use steps::flow;
-use steps::turn;
 
 // The scheduler's state, which only the calls make. The flow numbers of the line lie in the first cells. Its cells' types are public because states
 // lie in other crates' structs; no call takes or gives a cell.
@@ -120,9 +119,9 @@ impl State {
         ensures { λ r. ⌜ DepartGives self r ⌝ }
     {
         let round = self.round;
-        let at = turn::whose(self.line[0], round);
+        let at = turns::whose(self.line[0], round);
         let flow = self.flows[at];
-        let step = turn::visit(&mut self.line, round, flow);
+        let step = turns::visit(&mut self.line, round, flow);
         let rest = step.flow;
         self.flows[at] = rest;
         let after = step.round;
@@ -151,9 +150,9 @@ impl State {
         let mut round = self.round;
         let mut made = 0;
         while made < n {
-            let at = turn::whose(line[0], round);
+            let at = turns::whose(line[0], round);
             let flow = self.flows[at];
-            let step = turn::visit(&mut line, round, flow);
+            let step = turns::visit(&mut line, round, flow);
             let rest = step.flow;
             self.flows[at] = rest;
             let after = step.round;

@@ -1,5 +1,5 @@
 -- What the private functions may count on, which every public call shows from `Sound`; and how what they make of the parts of a state is told.
-use Prim.Native.Nat.{ℕ, _+_, _*_, _≤_, _<_}
+use Prim.Native.Nat.{ℕ, _+_, _≤_, _<_}
 use mathlib.Core.Path.{_≡_}
 use mathlib.Core.List.{List}
 use lib.ListN.{length, take}
@@ -8,11 +8,9 @@ use Rattle.model.specs.Model.{Round}
 use Rattle.model.specs.Rules.{FlowRules}
 use Rattle.model.specs.Choose.{ifZero}
 use Rattle.model.specs.Calls.{openRefusal, offerRefusal, openFlow, answerOf}
-use Rattle.model.specs.Steps.{Visit, roundStarted, packetJoined, flowLined}
+use Rattle.model.specs.Steps.{packetJoined, flowLined}
 use Rattle.model.specs.declared.Answer.{Answer}
-use Rattle.model.specs.declared.Reply.{Reply}
 use Rattle.model.specs.declared.Serving.{Serving}
-use Rattle.model.specs.declared.Serving.the-variants.{NoTurn, Turn}
 use Rattle.steps.specs.Cells.{cells, lineRoom, encodeFlow, viewFlow}
 use Rattle.steps.specs.Places.{offeredPlace}
 use Rattle.steps.specs.declared.FlowCell.{FlowCell}
@@ -20,7 +18,6 @@ use Rattle.steps.specs.declared.Offered.{Offered}
 use Rattle.steps.specs.declared.Opened.{Opened}
 use Rattle.steps.specs.declared.Place.{Place}
 use Rattle.steps.specs.declared.RoundCell.{RoundCell}
-use Rattle.steps.specs.declared.Visited.{Visited}
 
 -- The flow is one of a sound state.
 pub record FlowReady (x : FlowCell) : Type 0 where
@@ -80,46 +77,9 @@ pub record RoundReady (r : RoundInPlace) : Type 0 where
   pub mark-in-range : r .mark ≤ markLimit
   pub running-in-range : r .running ≤ markLimit
 
--- A turn of the flow is open in which more may be sent.
-pub record MayServe (r : RoundInPlace) (x : FlowCell) (allowed sent : ℕ) : Type 0 where
-  pub round-ready : RoundReady r
-  pub has-first : HasFirst x
-  pub weighs : 1 ≤ x .weight
-  pub no-surplus : x .surplus ≡ 0
-  pub line-has-room : r .length < flowLimit
-  pub a-visit-left : 1 ≤ r .visits
-  pub allowed-in-range : allowed ≤ allowanceLimit
-  pub more-may-be-sent : sent < allowed
-
--- The flow is at the head of the line, and owes no more than the mark of the round in which its turn opens covers.
-pub record MayBegin (r : RoundInPlace) (x : FlowCell) : Type 0 where
-  pub round-ready : RoundReady r
-  pub some-in-line : 0 < r .length
-  pub has-first : HasFirst x
-  pub weighs : 1 ≤ x .weight
-  pub owed : x .surplus ≤ x .weight * roundStarted (viewRound r) .mark
-
-pub record MayVisit (r : RoundInPlace) (x : FlowCell) : Type 0 where
-  pub round-ready : RoundReady r
-  pub flow-form : x ≡ encodeFlow (viewFlow x)
-  pub in-turn : (f allowed sent : ℕ) → r .turn ≡ Turn f allowed sent → MayServe r x allowed sent
-  pub at-head : r .turn ≡ NoTurn → (r .length ≡ 0 → ⊥) → MayBegin r x
-
 -- A step that leaves the line alone gives these numbers, whatever line lies beside them.
 abbrev pub StepGives : RoundCell → (Round → Round) → RoundCell → Type 0
 StepGives r step c = (line : List ℕ) → RoundReady (inPlace line r) → inPlace line c ≡ encodeRound (step (viewRound (inPlace line r)))
-
--- What a departure call makes of a round and a flow, as code keeps them, with its reply.
-pub record VisitInPlace : Type 0 where
-  pub round : RoundInPlace
-  pub flow : FlowCell
-  pub reply : Reply
-
-unfoldable pub encodeVisit : Visit → VisitInPlace
-encodeVisit v = record { round = encodeRound (v .round); flow = encodeFlow (v .flow); reply = v .reply }
-
-abbrev pub visitInPlace : List ℕ → Visited → VisitInPlace
-visitInPlace line v = record { round = inPlace line (v .round); flow = v .flow; reply = v .reply }
 
 -- What open makes of the flow that it concerns.
 unfoldable pub openedParts : FlowCell → ℕ → ℕ → Opened

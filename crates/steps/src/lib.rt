@@ -1,15 +1,13 @@
-// Document 01's steps 1 to 6 and the checks of open and offer, on the parts of a state that a call concerns: the round's numbers and one flow by
-// value, the line lent. No user calls them: the state's calls stand above, and what a step may count on is shown there.
+// Document 01's steps, one function for each, and the checks of open and offer, on the parts of a state that a call concerns: the round's numbers and one
+// flow by value, the line lent. No user calls them: the state's calls stand above, and what a step may count on is shown there.
 use model::Answer;
 use model::FLOW_LIMIT;
-use model::Reply;
 use model::Serving;
 
 pub mod ask;
 mod cells;
 pub mod flow;
 pub mod round;
-pub mod turn;
 
 // The line has one cell more than there are flows, always 0, so that taking the head out is one move of whole words.
 pub const LINE_ROOM: usize = FLOW_LIMIT + 1;
@@ -37,13 +35,6 @@ pub struct Place {
     pub flow: usize,
     pub slot: usize,
     pub size: usize,
-}
-
-// What a departure call makes of the round's numbers and of the flow whose turn it is, with its reply.
-pub struct Visited {
-    pub round: RoundCell,
-    pub flow: FlowCell,
-    pub reply: Reply,
 }
 
 // What open makes of the flow that it concerns, with its answer.

@@ -1,12 +1,13 @@
 -- The round is started where due, the head leaves the line, and its turn is served.
 use mathlib.Core.Path.{refl}
 use lib.ListN.{getD}
-use Rattle.steps.proofs.BeginLaws.{may-open-turn, may-allow, may-serve, begun-law}
+use Rattle.turns.proofs.BeginLaws.{may-open-turn, may-allow, may-serve, begun-law}
 use denote.Ref.{now}
 use borrow.Author.Needs.{needs}
-use Rattle.steps.specs.Premises.{inPlace, visitInPlace}
-use Rattle.steps.proofs.turn.begun.Statement.{statement}
-use Rattle.steps.proofs.turn.begun.Tie as tie
+use Rattle.steps.specs.Premises.{inPlace}
+use Rattle.turns.specs.Visits.{visitInPlace}
+use Rattle.turns.proofs.begun.Statement.{statement}
+use Rattle.turns.proofs.begun.Tie as tie
 
 element-copy-out-f : tie.Need-element-copy-out-f
 element-copy-out-f c = search needs

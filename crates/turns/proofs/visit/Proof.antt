@@ -1,11 +1,11 @@
 -- One law for each case of the turn.
 use native.Mathlib.Omega.{arith}
 use borrow.Author.Needs.{needs}
-use Rattle.steps.proofs.BeginLaws.{turn-law, head-law, idle-law}
+use Rattle.turns.proofs.BeginLaws.{turn-law, head-law, idle-law}
 use denote.Ref.{now}
 use Rattle.steps.specs.Premises.{inPlace}
-use Rattle.steps.proofs.turn.visit.Statement.{statement}
-use Rattle.steps.proofs.turn.visit.Tie as tie
+use Rattle.turns.proofs.visit.Statement.{statement}
+use Rattle.turns.proofs.visit.Tie as tie
 
 enum-known-turn : tie.Need-enum-known-turn
 enum-known-turn c = search needs

@@ -1,11 +1,11 @@
 -- What is left of the flow and what is sent decide how the turn goes on; each way is one law.
 use borrow.Author.Needs.{needs}
 use native.Mathlib.Omega.{arith}
-use Rattle.steps.proofs.TurnLaws.{sent-small, left-ready, may-empty, may-close, may-keep, emptied-visit, closed-visit, open-visit}
+use Rattle.turns.proofs.TurnLaws.{sent-small, left-ready, may-empty, may-close, may-keep, emptied-visit, closed-visit, open-visit}
 use Rattle.steps.specs.Premises.{inPlace}
 use denote.Ref.{now}
-use Rattle.steps.proofs.turn.served.Statement.{statement}
-use Rattle.steps.proofs.turn.served.Tie as tie
+use Rattle.turns.proofs.served.Statement.{statement}
+use Rattle.turns.proofs.served.Tie as tie
 
 first-size-requires : tie.Need-first-size-requires
 first-size-requires c κs = search needs

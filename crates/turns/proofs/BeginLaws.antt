@@ -15,11 +15,12 @@ use Rattle.model.specs.declared.Serving.{Serving}
 use Rattle.model.specs.declared.Serving.the-variants.{NoTurn, Turn}
 use Rattle.model.proofs.Flows.{cleared-flow-rules, none-is-empty}
 use Rattle.model.proofs.Choosing.{chosen-has}
 use Rattle.steps.specs.Cells.{lineRoom, cells, encodeFlow, viewFlow}
-use Rattle.steps.specs.Premises.{RoundInPlace, encodeRound, viewRound, FlowReady, RoundReady, MayServe, MayBegin, MayVisit, VisitInPlace, encodeVisit}
+use Rattle.steps.specs.Premises.{RoundInPlace, encodeRound, viewRound, FlowReady, RoundReady}
+use Rattle.turns.specs.Visits.{MayServe, MayBegin, MayVisit, VisitInPlace, encodeVisit}
 use Rattle.steps.specs.declared.FlowCell.{FlowCell}
-use Rattle.steps.proofs.TurnLaws.{same-visit}
+use Rattle.turns.proofs.TurnLaws.{same-visit}
 use Rattle.steps.proofs.Encoded.{flow-seen, flow-ready, round-seen, round-ready, waiting-is, line-is, length-is}
 
 -- The first cell of a line is its head; 0 where the line is empty.
 first-cell : (l : List ℕ) → getD (cells lineRoom l) 0 0 ≡ getD l 0 0

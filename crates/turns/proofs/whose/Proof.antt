@@ -1,10 +1,10 @@
 -- The flow of the turn, or the first cell of the line.
 use borrow.Author.Needs.{needs}
 use mathlib.Core.Path.{_∙_}
-use Rattle.steps.proofs.BeginLaws.{whose-turn, whose-head}
+use Rattle.turns.proofs.BeginLaws.{whose-turn, whose-head}
 use Rattle.steps.specs.Premises.{inPlace}
-use Rattle.steps.proofs.turn.whose.Statement.{statement}
-use Rattle.steps.proofs.turn.whose.Tie as tie
+use Rattle.turns.proofs.whose.Statement.{statement}
+use Rattle.turns.proofs.whose.Tie as tie
 
 enum-known-turn : tie.Need-enum-known-turn
 enum-known-turn c = search needs

@@ -1,21 +1,29 @@
-// Steps 2 to 6, on the round and the flow whose turn it is.
+// A departure: document 01's steps 2 to 6 one after the other, on the round and the flow whose turn it is. No user calls these functions: the state's
+// calls stand above, and what they may count on is shown there.
 ghost use mathlib.Core.Path.{_≡_};
 ghost use mathlib.Core.List.{List};
 ghost use lib.ListN.{getD};
 ghost use Prim.Native.Nat.{ℕ};
 ghost use Rattle.model.specs.Steps.{served as servedOf, visit as visitOf, visitBy, whose as whoseOf};
 ghost use Rattle.model.specs.declared.Serving.the-variants.{NoTurn};
 ghost use Rattle.steps.specs.Cells.{viewFlow};
-ghost use Rattle.steps.specs.Premises.{inPlace, viewRound, RoundReady, MayServe, MayBegin, MayVisit, visitInPlace, encodeVisit};
-use crate::FlowCell;
-use crate::LINE_ROOM;
-use crate::RoundCell;
-use crate::Visited;
-use crate::flow;
-use crate::round;
+ghost use Rattle.steps.specs.Premises.{inPlace, viewRound, RoundReady};
+ghost use Rattle.turns.specs.Visits.{MayServe, MayBegin, MayVisit, visitInPlace, encodeVisit};
 use model::Reply;
 use model::Sent;
 use model::Serving;
+use steps::FlowCell;
+use steps::LINE_ROOM;
+use steps::RoundCell;
+use steps::flow;
+use steps::round;
+
+// What a departure call makes of the round's numbers and of the flow whose turn it is, with its reply.
+pub struct Visited {
+    pub round: RoundCell,
+    pub flow: FlowCell,
+    pub reply: Reply,
+}
 
 // Steps 3 to 6, in an open turn of flow f.
 fn served(

@@ -15,11 +15,12 @@ use Rattle.model.specs.declared.Reply.{Reply}
 use Rattle.model.specs.declared.Reply.the-variants.{Departure}
 use Rattle.model.proofs.Flows.{left-flow-rules}
 use Rattle.model.proofs.Choosing.{empty-by-count, waiting-by-count}
 use Rattle.steps.specs.Cells.{encodeFlow, viewFlow}
-use Rattle.steps.specs.Premises.{RoundInPlace, encodeRound, viewRound, FlowReady, RoundReady, MayServe, sentLimit, VisitInPlace, encodeVisit}
+use Rattle.steps.specs.Premises.{RoundInPlace, encodeRound, viewRound, FlowReady, RoundReady, sentLimit}
+use Rattle.turns.specs.Visits.{MayServe, VisitInPlace, encodeVisit}
 use Rattle.steps.specs.declared.FlowCell.{FlowCell}
 use Rattle.steps.proofs.Encoded.{flow-seen, flow-ready, waiting-is}
 use Rattle.steps.proofs.FlowLaws.{nothing-kept, first-size-small}
 
 -- A flow without surplus keeps its rules when its first packet leaves.
 left-rules-parts : (w k : ℕ) (q : List ℕ) → FlowRules (record { weight = w; surplus = 0; slot = k; queue = q }) → 0 < length q

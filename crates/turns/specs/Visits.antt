@@ -1,0 +1,49 @@
+-- What the functions of a departure may count on, which the state's calls show from `Sound`; and what they make of a round and a flow.
+use Prim.Native.Nat.{ℕ, _*_, _≤_, _<_}
+use mathlib.Core.Path.{_≡_}
+use mathlib.Core.List.{List}
+use Rattle.model.specs.Limits.{flowLimit, allowanceLimit}
+use Rattle.model.specs.Steps.{Visit, roundStarted}
+use Rattle.model.specs.declared.Reply.{Reply}
+use Rattle.model.specs.declared.Serving.the-variants.{NoTurn, Turn}
+use Rattle.steps.specs.Cells.{encodeFlow, viewFlow}
+use Rattle.steps.specs.Premises.{RoundInPlace, inPlace, encodeRound, viewRound, HasFirst, RoundReady}
+use Rattle.steps.specs.declared.FlowCell.{FlowCell}
+use Rattle.turns.specs.declared.Visited.{Visited}
+
+-- A turn of the flow is open in which more may be sent.
+pub record MayServe (r : RoundInPlace) (x : FlowCell) (allowed sent : ℕ) : Type 0 where
+  pub round-ready : RoundReady r
+  pub has-first : HasFirst x
+  pub weighs : 1 ≤ x .weight
+  pub no-surplus : x .surplus ≡ 0
+  pub line-has-room : r .length < flowLimit
+  pub a-visit-left : 1 ≤ r .visits
+  pub allowed-in-range : allowed ≤ allowanceLimit
+  pub more-may-be-sent : sent < allowed
+
+-- The flow is at the head of the line, and owes no more than the mark of the round in which its turn opens covers.
+pub record MayBegin (r : RoundInPlace) (x : FlowCell) : Type 0 where
+  pub round-ready : RoundReady r
+  pub some-in-line : 0 < r .length
+  pub has-first : HasFirst x
+  pub weighs : 1 ≤ x .weight
+  pub owed : x .surplus ≤ x .weight * roundStarted (viewRound r) .mark
+
+pub record MayVisit (r : RoundInPlace) (x : FlowCell) : Type 0 where
+  pub round-ready : RoundReady r
+  pub flow-form : x ≡ encodeFlow (viewFlow x)
+  pub in-turn : (f allowed sent : ℕ) → r .turn ≡ Turn f allowed sent → MayServe r x allowed sent
+  pub at-head : r .turn ≡ NoTurn → (r .length ≡ 0 → ⊥) → MayBegin r x
+
+-- What a departure call makes of a round and a flow, as code keeps them, with its reply.
+pub record VisitInPlace : Type 0 where
+  pub round : RoundInPlace
+  pub flow : FlowCell
+  pub reply : Reply
+
+unfoldable pub encodeVisit : Visit → VisitInPlace
+encodeVisit v = record { round = encodeRound (v .round); flow = encodeFlow (v .flow); reply = v .reply }
+
+abbrev pub visitInPlace : List ℕ → Visited → VisitInPlace
+visitInPlace line v = record { round = inPlace line (v .round); flow = v .flow; reply = v .reply }
