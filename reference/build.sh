@@ -1,9 +1,10 @@
 #!/bin/sh
-# Builds the reference and prints the path of the program.
+# Builds the reference and prints the path of the program. REFERENCE_TARGET may name another folder
+# for it than one below target/, which rt ci empties.
 set -eu
 
 here=$(cd "$(dirname "$0")" && pwd)
-target=$(dirname "$here")/target/reference
+target=${REFERENCE_TARGET:-$(dirname "$here")/target/reference}
 program=$target/release/reference
 
 if command -v cargo >/dev/null 2>&1; then
