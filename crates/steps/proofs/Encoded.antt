@@ -94,3 +94,7 @@ round-seen r =
 pub round-ready : (r : Round) → length (r .line) ≤ flowLimit → r .mark ≤ markLimit → r .running ≤ markLimit → RoundReady (encodeRound r)
 unfolding encodeRound
 round-ready r l m n = record { form = ap encodeRound (sym (round-seen r)); line-fits = l; mark-in-range = m; running-in-range = n }
+
+-- The line of a round that is ready has all its cells.
+pub line-length : {r : RoundInPlace} → RoundReady r → length (r .line) ≡ lineRoom
+line-length {r} R = ap length (line-is r (R .form)) ∙ cells-length lineRoom (viewRound r .line) (omega (arith, length-is r (R .form), R .line-fits))

@@ -8,7 +8,6 @@ ghost use Rattle.model.specs.Calls.{openRefusal, offerRefusal};
 ghost use Rattle.steps.specs.Cells.{viewFlow};
 ghost use Rattle.steps.specs.Premises.{inPlace, FlowReady, RoundReady, openedParts, offerInPlace, offeredParts};
 use crate::FlowCell;
-use crate::LINE_ROOM;
 use crate::Offered;
 use crate::Opened;
 use crate::Place;
@@ -98,7 +97,7 @@ pub fn opened(x: FlowCell, f: usize, weight: usize) -> Opened
 }
 
 pub fn offered(
-    line: &mut [u8; LINE_ROOM],
+    line: &mut [u8],
     r: RoundCell,
     x: FlowCell,
     f: usize,

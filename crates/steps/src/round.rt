@@ -7,13 +7,12 @@ ghost use Rattle.model.specs.Steps.{flowLined, roundStarted, allowance as allow
 ghost use Rattle.steps.specs.Cells.{viewFlow};
 ghost use Rattle.steps.specs.Premises.{inPlace, viewRound, encodeRound, FlowReady, RoundReady, StepGives, sentLimit, withLength};
 use crate::FlowCell;
-use crate::LINE_ROOM;
 use crate::RoundCell;
 use crate::cells::shift;
 use model::Serving;
 
 // Step 1: a flow that was not active goes to the end of the line; tells how long the line then is.
-pub fn lined(line: &mut [u8; LINE_ROOM], r: RoundCell, f: u8, was: FlowCell) -> u8
+pub fn lined(line: &mut [u8], r: RoundCell, f: u8, was: FlowCell) -> u8
     requires { ⌜ RoundReady (inPlace (now line) r) ⌝ }
     requires { ⌜ FlowReady was ⌝ }
     requires { ⌜ (was .waiting ≡ 0 → r .length < flowLimit) ⌝ }
@@ -55,7 +54,7 @@ pub fn allowance(weight: u16, mark: u16, surplus: u16) -> u16
 }
 
 // Step 2: the head leaves the line and opens a turn.
-pub fn turn_opened(line: &mut [u8; LINE_ROOM], r: RoundCell, f: u8, allowed: u16) -> RoundCell
+pub fn turn_opened(line: &mut [u8], r: RoundCell, f: u8, allowed: u16) -> RoundCell
     requires { ⌜ RoundReady (inPlace (now line) r) ⌝ }
     requires { ⌜ 0 < r .length ⌝ }
     ensures { λ c. ⌜ inPlace (now (line .exit)) c ≡ encodeRound (turnOpened (viewRound (inPlace (now (line .entry)) r)) f allowed) ⌝ }
@@ -140,7 +139,7 @@ pub fn turn_emptied(r: RoundCell, left: FlowCell, allowed: u16, sent: u16) -> Ro
 
 // Steps 5 and 6: the turn ends with packets waiting, and the flow goes to the end of the line.
 pub fn turn_closed(
-    line: &mut [u8; LINE_ROOM],
+    line: &mut [u8],
     r: RoundCell,
     left: FlowCell,
     f: u8,

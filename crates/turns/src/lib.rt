@@ -13,7 +13,6 @@ use model::Reply;
 use model::Sent;
 use model::Serving;
 use steps::FlowCell;
-use steps::LINE_ROOM;
 use steps::RoundCell;
 use steps::flow;
 use steps::round;
@@ -27,7 +26,7 @@ pub struct Visited {
 
 // Steps 3 to 6, in an open turn of flow f.
 fn served(
-    line: &mut [u8; LINE_ROOM],
+    line: &mut [u8],
     r: RoundCell,
     x: FlowCell,
     f: u8,
@@ -73,7 +72,7 @@ fn served(
 }
 
 // Steps 2 to 6, for the flow at the head of the line.
-fn begun(line: &mut [u8; LINE_ROOM], r: RoundCell, x: FlowCell) -> Visited
+fn begun(line: &mut [u8], r: RoundCell, x: FlowCell) -> Visited
     requires { ⌜ MayBegin (inPlace (now line) r) x ⌝ }
     ensures { λ v. ⌜ visitInPlace (now (line .exit)) v ≡ encodeVisit (visitBy NoTurn (viewRound (inPlace (now (line .entry)) r) .line) (viewRound (inPlace (now (line .entry)) r)) (viewFlow x)) ⌝ }
 {
@@ -84,7 +83,7 @@ fn begun(line: &mut [u8; LINE_ROOM], r: RoundCell, x: FlowCell) -> Visited
     served(line, open, flow::cleared(x), f, allowed, 0)
 }
 
-pub fn visit(line: &mut [u8; LINE_ROOM], r: RoundCell, x: FlowCell) -> Visited
+pub fn visit(line: &mut [u8], r: RoundCell, x: FlowCell) -> Visited
     requires { ⌜ MayVisit (inPlace (now line) r) x ⌝ }
     ensures { λ v. ⌜ visitInPlace (now (line .exit)) v ≡ encodeVisit (visitOf (viewRound (inPlace (now (line .entry)) r)) (viewFlow x)) ⌝ }
 {

@@ -1,22 +1,21 @@
 -- The loop moves the bytes down one by one.
-use Prim.Native.Nat.{ℕ, suc, _+_, _-_, _≤_}
+use Prim.Native.Nat.{ℕ, _+_, _-_, _≤_}
 use mathlib.Core.Path.{_≡_, ap, _∙_}
 use native.Mathlib.Omega.{arith}
 use borrow.Author.Needs.{needs}
 use mathlib.Core.List.{List}
 use lib.ListN.{length, set, getD, length-set}
+use Rattle.model.specs.Limits.{flowLimit}
+use Rattle.steps.specs.Cells.{lineRoom}
 use Rattle.steps.proofs.Shifting.{movedDown, one-more-moves, all-moved}
 use Rattle.steps.proofs.cells.shift.Statement.{statement}
 use Rattle.steps.proofs.cells.shift.Tie as tie
 
 abbrev Inv-loop : tie.InvT-loop
-Inv-loop cells₀ last i₀ cells i = (i ≤ last) × (suc last ≡ length cells₀) × (length cells ≡ length cells₀) × (cells ≡ movedDown cells₀ i)
+Inv-loop cells₀ i₀ cells i = (i ≤ flowLimit) × (length cells₀ ≡ lineRoom) × (length cells ≡ length cells₀) × (cells ≡ movedDown cells₀ i)
 
 abbrev μ-loop : tie.MeasureT-loop
-μ-loop cells₀ last i₀ cells i = last - i
-
-sub-last : tie.Need-sub-last Inv-loop μ-loop
-sub-last c = search needs
+μ-loop cells₀ i₀ cells i = flowLimit - i
 
 loop-holds : tie.Need-loop-holds Inv-loop μ-loop
 loop-holds c = search needs
@@ -63,7 +62,6 @@ shift-spec =
     (tie.spec
     Inv-loop
     μ-loop
-    sub-last
     loop-holds
     add-cells
     slice-read-cells

@@ -1,5 +1,6 @@
 -- A flow with no packet waiting goes behind the last of the line.
 use borrow.Author.Needs.{needs}
+use Rattle.steps.proofs.Encoded.{line-length}
 use Rattle.steps.proofs.RoundLaws.{lined-law, in-place-law}
 use Rattle.steps.specs.Premises.{inPlace}
 use denote.Ref.{now}
@@ -10,11 +11,16 @@ use Rattle.steps.proofs.round.lined.Tie as tie
 cast-at : tie.Need-cast-at
 cast-at c = search needs
 
-element-write-line : tie.Need-element-write-line
-element-write-line c = omega (arith, c .before .before .before .pre .0 .line-fits)
+slice-write-line : tie.Need-slice-write-line
+slice-write-line c =
+    let start = c .before .before .before in
+    omega (arith, start .pre .0 .line-fits, line-length (start .pre .0))
 
 add-result : tie.Need-add-result
 add-result c = search needs
+
+same-length : tie.Need-same-length
+same-length c = search needs
 
 returns : tie.Need-returns
 returns c =
@@ -30,4 +36,4 @@ returns-2 c =
     (c .if1 .left)
 
 pub lined-spec : {M : Type 1} → statement M
-lined-spec = tie.close (tie.spec cast-at element-write-line add-result returns returns-2)
+lined-spec = tie.close (tie.spec cast-at slice-write-line add-result same-length returns returns-2)
