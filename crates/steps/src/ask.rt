@@ -96,13 +96,7 @@ pub fn opened(x: FlowCell, f: usize, weight: usize) -> Opened
     }
 }
 
-pub fn offered(
-    line: &mut [u8],
-    r: RoundCell,
-    x: FlowCell,
-    f: usize,
-    size: usize,
-) -> Offered
+pub fn offered(line: &mut [u8], r: RoundCell, x: FlowCell, f: usize, size: usize) -> Offered
     requires { ⌜ RoundReady (inPlace (now line) r) ⌝ }
     requires { ⌜ FlowReady x ⌝ }
     requires { ⌜ (f < flowLimit → x .waiting ≡ 0 → r .length < flowLimit) ⌝ }

@@ -1,6 +1,6 @@
 -- Step 2 for the flow at the head of the line: its turn may be served, and is what the model's visit serves.
 use Prim.Native.Nat.{ℕ, zero, suc, _*_, _-_, _≤_, _<_}
-use mathlib.Core.Path.{_≡_, refl, sym, ap, _∙_, subst}
+use mathlib.Core.Path.{_≡_, refl, sym, ap, ap₂, _∙_, subst}
 use mathlib.Core.List.{List, [], _∷_}
 use native.Mathlib.Omega.{arith}
 use native.Mathlib.Nat.{mul-le-mul}
@@ -17,7 +17,7 @@ use Rattle.model.proofs.Flows.{cleared-flow-rules, none-is-empty}
 use Rattle.model.proofs.Choosing.{chosen-has}
 use Rattle.steps.specs.Cells.{lineRoom, cells, encodeFlow, viewFlow}
 use Rattle.steps.specs.Premises.{RoundInPlace, encodeRound, viewRound, FlowReady, RoundReady}
-use Rattle.turns.specs.Visits.{MayServe, MayBegin, MayVisit, VisitInPlace, encodeVisit}
+use Rattle.turns.specs.Visits.{MayServe, MayBegin, MayVisit, begunBy, begunTurn, encodeVisit}
 use Rattle.steps.specs.declared.FlowCell.{FlowCell}
 use Rattle.turns.proofs.TurnLaws.{same-visit}
 use Rattle.steps.proofs.Encoded.{flow-seen, flow-ready, round-seen, round-ready, waiting-is, line-is, length-is}
@@ -31,11 +31,10 @@ first-cell (f ∷ l) = refl
 head-is : (r : RoundInPlace) → r ≡ encodeRound (viewRound r) → getD (r .line) 0 0 ≡ getD (viewRound r .line) 0 0
 head-is r form = ap (λ (l : List ℕ). getD l 0 0) (line-is r form) ∙ first-cell (viewRound r .line)
 
-visit-of-head : (l : List ℕ) (r : Round) (x : Flow) → 0 < length l
-    → visitBy NoTurn l r x ≡ served (turnOpened (roundStarted r) (getD l 0 0) (headAllowance r x)) (surplusCleared x) (getD l 0 0) (headAllowance r x) 0
-unfolding visitBy
-visit-of-head [] r x h = absurd (omega arith)
-visit-of-head (f ∷ l) r x h = refl
+begun-of-head : (l : List ℕ) (r : Round) (x : Flow) → 0 < length l → begunBy NoTurn l r x ≡ turnOpened (roundStarted r) (getD l 0 0) (headAllowance r x)
+unfolding begunBy
+begun-of-head [] r x h = absurd (omega arith)
+begun-of-head (f ∷ l) r x h = refl
 
 -- Where a round may start, a visit is left.
 some-visit : (v n : ℕ) → 0 < n → 1 ≤ ifZero v n v
@@ -76,12 +75,9 @@ module _ (r : RoundInPlace) (x : FlowCell) (h : MayBegin r x) where
     may-allow = (h .has-first .ready .rules .weight-in-range, now-ready .mark-in-range, rw mark-is (h .owed))
 
     module _ (allowed : ℕ) (a : allowed ≡ allowance (x .weight) (now .mark) (x .surplus)) (opened : RoundInPlace) (f : ℕ)
-        (o : opened ≡ encodeRound (turnOpened (viewRound now) f allowed)) (clear : FlowCell) (k : clear ≡ encodeFlow (surplusCleared (viewFlow x))) where
+        (o : opened ≡ encodeRound (turnOpened (viewRound now) f allowed)) where
       now-seen : viewRound now ≡ roundStarted (viewRound r)
       now-seen = ap viewRound n ∙ round-seen (roundStarted (viewRound r))
-
-      clear-rules : FlowRules (surplusCleared (viewFlow x))
-      clear-rules = cleared-flow-rules (viewFlow x) (h .has-first .ready .rules)
 
       one-less : length (drop 1 (viewRound now .line)) ≡ now .length - 1
       one-less = length-drop 1 (viewRound now .line) ∙ ap (λ (m : ℕ). m - 1) (sym (length-is now (now-ready .form)))
@@ -92,68 +88,188 @@ module _ (r : RoundInPlace) (x : FlowCell) (h : MayBegin r x) where
           subst RoundReady (sym o)
           (round-ready (turnOpened (viewRound now) f allowed) (omega (arith, one-less, now-ready .line-fits)) (now-ready .mark-in-range) (now-ready .running-in-range))
 
-      clear-ready : FlowReady clear
-      clear-ready = subst FlowReady (sym k) (flow-ready (surplusCleared (viewFlow x)) clear-rules)
-
       visits-are : opened .visits ≡ ifZero (r .visits) (length (viewRound r .line)) (r .visits)
       unfolding encodeRound turnOpened viewRound roundStarted
       visits-are = ap (λ (c : RoundInPlace). c .visits) o ∙ ap (λ (c : RoundInPlace). c .visits) n
 
-      pub may-serve : MayServe opened clear allowed 0
-      unfolding encodeFlow surplusCleared viewFlow encodeRound turnOpened
-      may-serve =
-          record {
-            round-ready = opened-ready;
-            has-first =
-                record {
-                  ready = clear-ready;
-                  waits = omega (arith, ap (λ (c : FlowCell). c .waiting) k, waiting-is x (h .has-first .ready .form), h .has-first .waits);
-                };
-            weighs = omega (arith, ap (λ (c : FlowCell). c .weight) k, h .weighs);
-            no-surplus = ap (λ (c : FlowCell). c .surplus) k;
-            line-has-room = omega (arith, ap (λ (c : RoundInPlace). c .length) o, one-less, now-some, now-ready .line-fits);
-            a-visit-left = omega (arith, visits-are, some-visit (r .visits) (length (viewRound r .line)) some-stand);
-            allowed-in-range = omega (arith, mul-le-mul (may-allow .0) (may-allow .1));
-            more-may-be-sent = omega (arith, may-allow .2, h .weighs);
-          }
-
-      pub begun-law : (v : VisitInPlace) → f ≡ getD (r .line) 0 0 → v ≡ encodeVisit (served (viewRound opened) (viewFlow clear) f allowed 0)
-          → v ≡ encodeVisit (visitBy NoTurn (viewRound r .line) (viewRound r) (viewFlow x))
+      -- The round with the head's turn open is what step 2 gives.
+      pub head-begun-law : f ≡ getD (r .line) 0 0 → opened ≡ encodeRound (begunBy NoTurn (viewRound r .line) (viewRound r) (viewFlow x))
       unfolding viewFlow
-      begun-law v g e =
-          e ∙ ap encodeVisit (rw (opened-seen, clear-seen, allowed-seen, head) (sym (visit-of-head (viewRound r .line) (viewRound r) (viewFlow x) some-stand)))
+      head-begun-law g =
+          o ∙ ap encodeRound (rw (now-seen, allowed-seen, g ∙ head-is r (h .round-ready .form)) (sym (begun-of-head (viewRound r .line) (viewRound r) (viewFlow x) some-stand)))
         where
-          opened-seen : viewRound opened ≡ turnOpened (roundStarted (viewRound r)) f allowed
-          opened-seen = ap viewRound o ∙ round-seen (turnOpened (viewRound now) f allowed) ∙ ap (λ (m : Round). turnOpened m f allowed) now-seen
-
-          clear-seen : viewFlow clear ≡ surplusCleared (viewFlow x)
-          clear-seen = ap viewFlow k ∙ flow-seen (surplusCleared (viewFlow x)) (clear-rules .sizes-in-range)
-
           allowed-seen : allowed ≡ headAllowance (viewRound r) (viewFlow x)
           allowed-seen = a ∙ ap (λ (m : ℕ). allowance (x .weight) m (x .surplus)) mark-is
 
-          head : f ≡ getD (viewRound r .line) 0 0
-          head = g ∙ head-is r (h .round-ready .form)
+      module _ (clear : FlowCell) (k : clear ≡ encodeFlow (surplusCleared (viewFlow x))) where
+        clear-rules : FlowRules (surplusCleared (viewFlow x))
+        clear-rules = cleared-flow-rules (viewFlow x) (h .has-first .ready .rules)
 
--- Which of the model's cases a visit is, by the turn.
-pub turn-law : (r : RoundInPlace) (x : FlowCell) (f allowed sent : ℕ) → r .turn ≡ Turn f allowed sent → {v : VisitInPlace}
-    → v ≡ encodeVisit (served (viewRound r) (viewFlow x) f allowed sent) → v ≡ encodeVisit (visit (viewRound r) (viewFlow x))
-unfolding visit visitBy viewRound
-turn-law r x f allowed sent t e = e ∙ ap (λ (u : Serving). encodeVisit (visitBy u (viewRound r .line) (viewRound r) (viewFlow x))) (sym t)
+        clear-ready : FlowReady clear
+        clear-ready = subst FlowReady (sym k) (flow-ready (surplusCleared (viewFlow x)) clear-rules)
 
-pub head-law : (r : RoundInPlace) (x : FlowCell) → r .turn ≡ NoTurn → {v : VisitInPlace}
-    → v ≡ encodeVisit (visitBy NoTurn (viewRound r .line) (viewRound r) (viewFlow x)) → v ≡ encodeVisit (visit (viewRound r) (viewFlow x))
-unfolding visit viewRound
-head-law r x t e = e ∙ ap (λ (u : Serving). encodeVisit (visitBy u (viewRound r .line) (viewRound r) (viewFlow x))) (sym t)
+        pub may-serve : MayServe opened clear allowed 0
+        unfolding encodeFlow surplusCleared viewFlow encodeRound turnOpened
+        may-serve =
+            record {
+              round-ready = opened-ready;
+              has-first =
+                  record {
+                    ready = clear-ready;
+                    waits = omega (arith, ap (λ (c : FlowCell). c .waiting) k, waiting-is x (h .has-first .ready .form), h .has-first .waits);
+                  };
+              weighs = omega (arith, ap (λ (c : FlowCell). c .weight) k, h .weighs);
+              no-surplus = ap (λ (c : FlowCell). c .surplus) k;
+              line-has-room = omega (arith, ap (λ (c : RoundInPlace). c .length) o, one-less, now-some, now-ready .line-fits);
+              a-visit-left = omega (arith, visits-are, some-visit (r .visits) (length (viewRound r .line)) some-stand);
+              allowed-in-range = omega (arith, mul-le-mul (may-allow .0) (may-allow .1));
+              more-may-be-sent = omega (arith, may-allow .2, h .weighs);
+            }
 
--- With no open turn and nobody in line it is idle.
-pub idle-law : (r : RoundInPlace) (x : FlowCell) → MayVisit r x → r .turn ≡ NoTurn → r .length ≡ 0
-    → record { round = r; flow = x; reply = Idle } ≡ encodeVisit (visit (viewRound r) (viewFlow x))
-unfolding encodeVisit visitBy
-idle-law r x h t e =
-    head-law r x t
-    (same-visit (h .round-ready .form) (h .flow-form) refl
-    ∙ ap (λ (l : List ℕ). encodeVisit (visitBy NoTurn l (viewRound r) (viewFlow x))) (sym (none-is-empty (viewRound r .line) (sym (length-is r (h .round-ready .form)) ∙ e))))
+-- ---- a turn is open, or one is opened
+
+-- Without a surplus there is nothing to clear.
+nothing-to-clear : (x : FlowCell) → FlowReady x → x .surplus ≡ 0 → encodeFlow (surplusCleared (viewFlow x)) ≡ x
+unfolding surplusCleared viewFlow
+nothing-to-clear x R z =
+    ap (λ (n : ℕ). encodeFlow (record { weight = x .weight; surplus = n; slot = x .slot; queue = viewFlow x .queue })) (sym z) ∙ sym (R .form)
+
+-- What a turn has, as numbers.
+abbrev isTurn : Serving → ℕ
+isTurn NoTurn = 0
+isTurn (Turn f allowed sent) = 1
+
+abbrev flowOf : Serving → ℕ
+flowOf NoTurn = 0
+flowOf (Turn f allowed sent) = f
+
+abbrev allowedOf : Serving → ℕ
+allowedOf NoTurn = 0
+allowedOf (Turn f allowed sent) = allowed
+
+abbrev sentOf : Serving → ℕ
+sentOf NoTurn = 0
+sentOf (Turn f allowed sent) = sent
+
+module _ (r : RoundInPlace) (x : FlowCell) (h : MayVisit r x) where
+  -- A round whose turn is open stays as it is, and so does one with nobody in line.
+  pub open-begun-law : (f allowed sent : ℕ) → r .turn ≡ Turn f allowed sent → r ≡ encodeRound (begunTurn (viewRound r) (viewFlow x))
+  unfolding begunTurn begunBy viewRound
+  open-begun-law f allowed sent t =
+      h .round-ready .form ∙ ap (λ (u : Serving). encodeRound (begunBy u (viewRound r .line) (viewRound r) (viewFlow x))) (sym t)
+
+  pub nobody-begun-law : r .turn ≡ NoTurn → r .length ≡ 0 → r ≡ encodeRound (begunTurn (viewRound r) (viewFlow x))
+  unfolding begunTurn begunBy viewRound
+  nobody-begun-law t e =
+      h .round-ready .form
+      ∙ ap (λ (l : List ℕ). encodeRound (begunBy NoTurn l (viewRound r) (viewFlow x))) (sym (none-is-empty (viewRound r .line) (sym (length-is r (h .round-ready .form)) ∙ e)))
+      ∙ ap (λ (u : Serving). encodeRound (begunBy u (viewRound r .line) (viewRound r) (viewFlow x))) (sym t)
+
+  pub somebody-begun-law : {b : RoundInPlace} → r .turn ≡ NoTurn → b ≡ encodeRound (begunBy NoTurn (viewRound r .line) (viewRound r) (viewFlow x))
+      → b ≡ encodeRound (begunTurn (viewRound r) (viewFlow x))
+  unfolding begunTurn viewRound
+  somebody-begun-law t e = e ∙ ap (λ (u : Serving). encodeRound (begunBy u (viewRound r .line) (viewRound r) (viewFlow x))) (sym t)
+
+  -- With no open turn and nobody in line it is idle.
+  idle-law : r .turn ≡ NoTurn → r .length ≡ 0 → record { round = r; flow = x; reply = Idle } ≡ encodeVisit (visit (viewRound r) (viewFlow x))
+  unfolding encodeVisit visit visitBy viewRound
+  idle-law t e =
+      same-visit (h .round-ready .form) (h .flow-ready .form) refl
+      ∙ ap (λ (l : List ℕ). encodeVisit (visitBy NoTurn l (viewRound r) (viewFlow x))) (sym (none-is-empty (viewRound r .line) (sym (length-is r (h .round-ready .form)) ∙ e)))
+      ∙ ap (λ (u : Serving). encodeVisit (visitBy u (viewRound r .line) (viewRound r) (viewFlow x))) (sym t)
+
+  -- What the turn that is then open gives: it may be served, and serving it is the model's visit.
+  pub record Serves (b : RoundInPlace) (f allowed sent : ℕ) (clear : FlowCell) : Type 0 where
+    pub may : MayServe b clear allowed sent
+    pub visits : visit (viewRound r) (viewFlow x) ≡ served (viewRound b) (viewFlow clear) f allowed sent
+
+  module _ (clear : FlowCell) (k : clear ≡ encodeFlow (surplusCleared (viewFlow x))) where
+    was-open : (f allowed sent : ℕ) → r .turn ≡ Turn f allowed sent → Serves r f allowed sent clear
+    unfolding visit visitBy viewRound
+    was-open f allowed sent t =
+        let M : MayServe r x allowed sent = h .in-turn f allowed sent t in
+        let same : x ≡ clear = sym (k ∙ nothing-to-clear x (h .flow-ready) (M .no-surplus)) in
+        record {
+          may = subst (λ (y : FlowCell). MayServe r y allowed sent) same M;
+          visits =
+              ap (λ (u : Serving). visitBy u (viewRound r .line) (viewRound r) (viewFlow x)) t
+              ∙ ap (λ (y : FlowCell). served (viewRound r) (viewFlow y) f allowed sent) same;
+        }
+
+    at-head : r .turn ≡ NoTurn → (g : ℕ) (l : List ℕ) → viewRound r .line ≡ g ∷ l → (b : RoundInPlace)
+        → b ≡ encodeRound (turnOpened (roundStarted (viewRound r)) g (headAllowance (viewRound r) (viewFlow x)))
+        → Serves b g (headAllowance (viewRound r) (viewFlow x)) 0 clear
+    unfolding visit visitBy viewRound viewFlow
+    at-head t g l e b o =
+        let m : Round = viewRound r in
+        let B : MayBegin r x = h .at-head t (λ z. omega (arith, length-is r (h .round-ready .form), ap length e)) in
+        let begins : b ≡ encodeRound (turnOpened (viewRound (encodeRound (roundStarted m))) g (headAllowance m (viewFlow x))) =
+        o ∙ ap (λ (q : Round). encodeRound (turnOpened q g (headAllowance m (viewFlow x)))) (sym (round-seen (roundStarted m))) in
+        record {
+          may =
+              may-serve r x B (encodeRound (roundStarted m)) refl (headAllowance m (viewFlow x))
+              (ap (λ (q : Round). allowance (x .weight) (q .mark) (x .surplus)) (sym (round-seen (roundStarted m)))) b g begins clear k;
+          visits =
+              ap (λ (u : Serving). visitBy u (m .line) m (viewFlow x)) t
+              ∙ ap (λ (j : List ℕ). visitBy NoTurn j m (viewFlow x)) e
+              ∙ ap₂ (λ (q : Round) (y : Flow). served q y g (headAllowance m (viewFlow x)) 0)
+              (sym (ap viewRound o ∙ round-seen (turnOpened (roundStarted m) g (headAllowance m (viewFlow x)))))
+              (sym (ap viewFlow k ∙ flow-seen (surplusCleared (viewFlow x)) (cleared-flow-rules (viewFlow x) (h .flow-ready .rules) .sizes-in-range)));
+        }
+
+    module _ (b : RoundInPlace) (e : b ≡ encodeRound (begunTurn (viewRound r) (viewFlow x))) where
+      begun-by : (u : Serving) (l : List ℕ) → r .turn ≡ u → viewRound r .line ≡ l → b ≡ encodeRound (begunBy u l (viewRound r) (viewFlow x))
+      unfolding begunTurn viewRound
+      begun-by u l t j = e ∙ ap₂ (λ (v : Serving) (k : List ℕ). encodeRound (begunBy v k (viewRound r) (viewFlow x))) t j
+
+      begun-turned : (f allowed sent : ℕ) (l : List ℕ) → r .turn ≡ Turn f allowed sent → viewRound r .line ≡ l → b ≡ encodeRound (viewRound r)
+      unfolding begunBy
+      begun-turned f allowed sent l t j = begun-by (Turn f allowed sent) l t j
+
+      begun-nobody : r .turn ≡ NoTurn → viewRound r .line ≡ [] → b ≡ encodeRound (viewRound r)
+      unfolding begunBy
+      begun-nobody t j = begun-by NoTurn [] t j
+
+      begun-headed : (g : ℕ) (l : List ℕ) → r .turn ≡ NoTurn → viewRound r .line ≡ g ∷ l
+          → b ≡ encodeRound (turnOpened (roundStarted (viewRound r)) g (headAllowance (viewRound r) (viewFlow x)))
+      unfolding begunBy
+      begun-headed g l t j = begun-by NoTurn (g ∷ l) t j
+
+      turn-of-head : (g : ℕ) (l : List ℕ) → r .turn ≡ NoTurn → viewRound r .line ≡ g ∷ l → b .turn ≡ Turn g (headAllowance (viewRound r) (viewFlow x)) 0
+      unfolding encodeRound turnOpened
+      turn-of-head g l t j = ap (λ (q : RoundInPlace). q .turn) (begun-headed g l t j)
+
+      unchanged : b ≡ encodeRound (viewRound r) → b ≡ r
+      unchanged j = j ∙ sym (h .round-ready .form)
+
+      -- By how the round was: with a turn open, with nobody in line, or with a head that opens one.
+      by-case : {A : Type 0} → ((f allowed sent : ℕ) → r .turn ≡ Turn f allowed sent → b ≡ r → A)
+          → (r .turn ≡ NoTurn → r .length ≡ 0 → b ≡ r → A)
+          → (r .turn ≡ NoTurn → (g : ℕ) → b .turn ≡ Turn g (headAllowance (viewRound r) (viewFlow x)) 0 → Serves b g (headAllowance (viewRound r) (viewFlow x)) 0 clear → A)
+          → A
+      by-case {A} turned nobody headed = go (r .turn) (viewRound r .line) refl refl
+        where
+          go : (u : Serving) (l : List ℕ) → r .turn ≡ u → viewRound r .line ≡ l → A
+          go (Turn f allowed sent) l t j = turned f allowed sent t (unchanged (begun-turned f allowed sent l t j))
+          go NoTurn [] t j = nobody t (length-is r (h .round-ready .form) ∙ ap length j) (unchanged (begun-nobody t j))
+          go NoTurn (g ∷ l) t j = headed t g (turn-of-head g l t j) (at-head t g l j b (begun-headed g l t j))
+
+      pub begun-serves : (f allowed sent : ℕ) → b .turn ≡ Turn f allowed sent → Serves b f allowed sent clear
+      begun-serves f allowed sent t =
+          by-case
+          (λ g a n u same. subst (λ (q : RoundInPlace). Serves q f allowed sent clear) (sym same) (was-open f allowed sent (sym (ap (λ (q : RoundInPlace). q .turn) same) ∙ t)))
+          (λ u z same. absurd (omega (arith, ap isTurn (sym u ∙ sym (ap (λ (q : RoundInPlace). q .turn) same) ∙ t))))
+          (λ u g opens S.
+          let same : Turn g (headAllowance (viewRound r) (viewFlow x)) 0 ≡ Turn f allowed sent = sym opens ∙ t in
+          subst (λ (n : ℕ). Serves b f allowed n clear) (ap sentOf same)
+          (subst (λ (n : ℕ). Serves b f n 0 clear) (ap allowedOf same) (subst (λ (n : ℕ). Serves b n (headAllowance (viewRound r) (viewFlow x)) 0 clear) (ap flowOf same) S)))
+
+      pub begun-idle : b .turn ≡ NoTurn → record { round = b; flow = x; reply = Idle } ≡ encodeVisit (visit (viewRound r) (viewFlow x))
+      begun-idle t =
+          by-case
+          (λ g a n u same. absurd (omega (arith, ap isTurn (sym u ∙ sym (ap (λ (q : RoundInPlace). q .turn) same) ∙ t))))
+          (λ u z same. same-visit same refl refl ∙ idle-law u z)
+          (λ u g opens S. absurd (omega (arith, ap isTurn (sym opens ∙ t))))
 
 pub whose-turn : (r : RoundInPlace) (f allowed sent : ℕ) → r .turn ≡ Turn f allowed sent → f ≡ whose (viewRound r)
 unfolding viewRound

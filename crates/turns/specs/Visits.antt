@@ -1,13 +1,15 @@
 -- What the functions of a departure may count on, which the state's calls show from `Sound`; and what they make of a round and a flow.
 use Prim.Native.Nat.{ℕ, _*_, _≤_, _<_}
 use mathlib.Core.Path.{_≡_}
-use mathlib.Core.List.{List}
+use mathlib.Core.List.{List, [], _∷_}
 use Rattle.model.specs.Limits.{flowLimit, allowanceLimit}
-use Rattle.model.specs.Steps.{Visit, roundStarted}
+use Rattle.model.specs.Model.{Flow, Round}
+use Rattle.model.specs.Steps.{Visit, roundStarted, headAllowance, turnOpened}
 use Rattle.model.specs.declared.Reply.{Reply}
+use Rattle.model.specs.declared.Serving.{Serving}
 use Rattle.model.specs.declared.Serving.the-variants.{NoTurn, Turn}
 use Rattle.steps.specs.Cells.{encodeFlow, viewFlow}
-use Rattle.steps.specs.Premises.{RoundInPlace, inPlace, encodeRound, viewRound, HasFirst, RoundReady}
+use Rattle.steps.specs.Premises.{RoundInPlace, inPlace, encodeRound, viewRound, FlowReady, HasFirst, RoundReady}
 use Rattle.steps.specs.declared.FlowCell.{FlowCell}
 use Rattle.turns.specs.declared.Visited.{Visited}
 
@@ -32,9 +34,18 @@ pub record MayBegin (r : RoundInPlace) (x : FlowCell) : Type 0 where
 
 pub record MayVisit (r : RoundInPlace) (x : FlowCell) : Type 0 where
   pub round-ready : RoundReady r
-  pub flow-form : x ≡ encodeFlow (viewFlow x)
+  pub flow-ready : FlowReady x
   pub in-turn : (f allowed sent : ℕ) → r .turn ≡ Turn f allowed sent → MayServe r x allowed sent
   pub at-head : r .turn ≡ NoTurn → (r .length ≡ 0 → ⊥) → MayBegin r x
+
+-- Step 2: the round with a turn open, opened here where none was; unchanged where nobody stands in line.
+unfoldable pub begunBy : Serving → List ℕ → Round → Flow → Round
+begunBy (Turn f allowed sent) line r x = r
+begunBy NoTurn [] r x = r
+begunBy NoTurn (f ∷ line) r x = turnOpened (roundStarted r) f (headAllowance r x)
+
+unfoldable pub begunTurn : Round → Flow → Round
+begunTurn r x = begunBy (r .turn) (r .line) r x
 
 -- What a departure call makes of a round and a flow, as code keeps them, with its reply.
 pub record VisitInPlace : Type 0 where

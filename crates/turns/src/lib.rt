@@ -4,11 +4,11 @@ ghost use mathlib.Core.Path.{_≡_};
 ghost use mathlib.Core.List.{List};
 ghost use lib.ListN.{getD};
 ghost use Prim.Native.Nat.{ℕ};
-ghost use Rattle.model.specs.Steps.{served as servedOf, visit as visitOf, visitBy, whose as whoseOf};
+ghost use Rattle.model.specs.Steps.{served as servedOf, visit as visitOf, whose as whoseOf};
 ghost use Rattle.model.specs.declared.Serving.the-variants.{NoTurn};
 ghost use Rattle.steps.specs.Cells.{viewFlow};
-ghost use Rattle.steps.specs.Premises.{inPlace, viewRound, RoundReady};
-ghost use Rattle.turns.specs.Visits.{MayServe, MayBegin, MayVisit, visitInPlace, encodeVisit};
+ghost use Rattle.steps.specs.Premises.{inPlace, viewRound, encodeRound, RoundReady};
+ghost use Rattle.turns.specs.Visits.{MayServe, MayBegin, MayVisit, begunBy, begunTurn, visitInPlace, encodeVisit};
 use model::Reply;
 use model::Sent;
 use model::Serving;
@@ -25,14 +25,7 @@ pub struct Visited {
 }
 
 // Steps 3 to 6, in an open turn of flow f.
-fn served(
-    line: &mut [u8],
-    r: RoundCell,
-    x: FlowCell,
-    f: u8,
-    allowed: u16,
-    sent: u16,
-) -> Visited
+fn served(line: &mut [u8], r: RoundCell, x: FlowCell, f: u8, allowed: u16, sent: u16) -> Visited
     requires { ⌜ MayServe (inPlace (now line) r) x allowed sent ⌝ }
     ensures { λ v. ⌜ visitInPlace (now (line .exit)) v ≡ encodeVisit (servedOf (viewRound (inPlace (now (line .entry)) r)) (viewFlow x) f allowed sent) ⌝ }
 {
@@ -71,36 +64,49 @@ fn served(
     }
 }
 
-// Steps 2 to 6, for the flow at the head of the line.
-fn begun(line: &mut [u8], r: RoundCell, x: FlowCell) -> Visited
+// Step 2, with no open turn: a round starts where no visit is left, and the flow at the head of the line opens a turn.
+fn head_begun(line: &mut [u8], r: RoundCell, x: FlowCell) -> RoundCell
     requires { ⌜ MayBegin (inPlace (now line) r) x ⌝ }
-    ensures { λ v. ⌜ visitInPlace (now (line .exit)) v ≡ encodeVisit (visitBy NoTurn (viewRound (inPlace (now (line .entry)) r) .line) (viewRound (inPlace (now (line .entry)) r)) (viewFlow x)) ⌝ }
+    ensures { λ c. ⌜ inPlace (now (line .exit)) c ≡ encodeRound (begunBy NoTurn (viewRound (inPlace (now (line .entry)) r) .line) (viewRound (inPlace (now (line .entry)) r)) (viewFlow x)) ⌝ }
 {
     let f = line[0];
     let now = round::started(r);
     let allowed = round::allowance(x.weight, now.mark, x.surplus);
-    let open = round::turn_opened(line, now, f, allowed);
-    served(line, open, flow::cleared(x), f, allowed, 0)
+    round::turn_opened(line, now, f, allowed)
 }
 
+// Step 2: a turn is open, or one is opened; none where nobody stands in line.
+fn begun(line: &mut [u8], r: RoundCell, x: FlowCell) -> RoundCell
+    requires { ⌜ MayVisit (inPlace (now line) r) x ⌝ }
+    ensures { λ c. ⌜ inPlace (now (line .exit)) c ≡ encodeRound (begunTurn (viewRound (inPlace (now (line .entry)) r)) (viewFlow x)) ⌝ }
+{
+    let turn = r.turn;
+    match turn {
+        Serving::Turn(_, _, _) => r,
+        Serving::NoTurn => {
+            if r.length == 0 {
+                r
+            } else {
+                head_begun(line, r, x)
+            }
+        }
+    }
+}
+
+// Steps 2 to 6. A flow whose turn is open has surplus 0 already, so it can be cleared whether its turn is opened here or was open.
 pub fn visit(line: &mut [u8], r: RoundCell, x: FlowCell) -> Visited
     requires { ⌜ MayVisit (inPlace (now line) r) x ⌝ }
     ensures { λ v. ⌜ visitInPlace (now (line .exit)) v ≡ encodeVisit (visitOf (viewRound (inPlace (now (line .entry)) r)) (viewFlow x)) ⌝ }
 {
-    let turn = r.turn;
+    let open = begun(line, r, x);
+    let turn = open.turn;
     match turn {
-        Serving::Turn(f, allowed, sent) => served(line, r, x, f, allowed, sent),
-        Serving::NoTurn => {
-            if r.length == 0 {
-                Visited {
-                    round: r,
-                    flow: x,
-                    reply: Reply::Idle,
-                }
-            } else {
-                begun(line, r, x)
-            }
-        }
+        Serving::Turn(f, allowed, sent) => served(line, open, flow::cleared(x), f, allowed, sent),
+        Serving::NoTurn => Visited {
+            round: open,
+            flow: x,
+            reply: Reply::Idle,
+        },
     }
 }
 

@@ -1,67 +1,46 @@
--- The round is started where due, the head leaves the line, and its turn is served.
-use mathlib.Core.Path.{refl}
-use lib.ListN.{getD}
-use Rattle.turns.proofs.BeginLaws.{may-open-turn, may-allow, may-serve, begun-law}
-use denote.Ref.{now}
+-- One law for each case of the turn.
+use native.Mathlib.Omega.{arith}
 use borrow.Author.Needs.{needs}
+use Rattle.turns.proofs.BeginLaws.{open-begun-law, nobody-begun-law, somebody-begun-law}
+use denote.Ref.{now}
 use Rattle.steps.specs.Premises.{inPlace}
-use Rattle.turns.specs.Visits.{visitInPlace}
 use Rattle.turns.proofs.begun.Statement.{statement}
 use Rattle.turns.proofs.begun.Tie as tie
 
-element-copy-out-f : tie.Need-element-copy-out-f
-element-copy-out-f c = search needs
+enum-told : tie.Need-enum-told
+enum-told c = search needs
 
-started-requires : tie.Need-started-requires
-started-requires c κs = search needs
+enum-told-2 : tie.Need-enum-told-2
+enum-told-2 c = search needs
 
-allowance-requires : tie.Need-allowance-requires
-allowance-requires c κs =
-    let start = c .before .before in
-    may-allow (inPlace (now (start .args .line)) (start .args .r)) (start .args .x) (start .pre) (inPlace (now (start .args .line)) (c .started .result))
-    (c .started .ensures (now (start .args .line)) (start .pre .round-ready))
-
-turn-opened-requires : tie.Need-turn-opened-requires
-turn-opened-requires c κs =
-    let start = c .before .before .before .before in
-    let started = c .before .before .started in
-    may-open-turn (inPlace (now (start .args .line)) (start .args .r)) (start .args .x) (start .pre) (inPlace (now (start .args .line)) (started .result))
-    (started .ensures (now (start .args .line)) (start .pre .round-ready))
-
-cleared-requires : tie.Need-cleared-requires
-cleared-requires c κs = c .before .before .before .before .before .before .pre .has-first .ready
-
-served-requires : tie.Need-served-requires
-served-requires c κs =
-    let start = c .before .before .before .before .before .before .before in
-    let started = c .before .before .before .before .before .started in
-    let allowance = c .before .before .before .before .allowance in
-    let turn-opened = c .before .before .turn-opened in
-    may-serve (inPlace (now (start .args .line)) (start .args .r)) (start .args .x) (start .pre) (inPlace (now (start .args .line)) (started .result))
-    (started .ensures (now (start .args .line)) (start .pre .round-ready)) (allowance .result) (allowance .ensures)
-    (inPlace (turn-opened .last .0) (turn-opened .result)) (getD (now (start .args .line)) 0 0) (turn-opened .ensures) (c .cleared .result)
-    (c .cleared .ensures)
+head-begun-requires : tie.Need-head-begun-requires
+head-begun-requires c κs =
+    let start = c .before .before .before .before .before .before in
+    start .pre .at-head (c .before .before .before .enum-told2 .given .1) (λ e. omega (arith, c .before .if1 .left))
 
 returns : tie.Need-returns
 returns c =
-    let start = c .before .before .before .before .before .before .before .before in
-    let started = c .before .before .before .before .before .before .started in
-    let allowance = c .before .before .before .before .before .allowance in
-    let turn-opened = c .before .before .before .turn-opened in
-    let cleared = c .before .cleared in
-    begun-law (inPlace (now (start .args .line)) (start .args .r)) (start .args .x) (start .pre) (inPlace (now (start .args .line)) (started .result))
-    (started .ensures (now (start .args .line)) (start .pre .round-ready)) (allowance .result) (allowance .ensures)
-    (inPlace (turn-opened .last .0) (turn-opened .result)) (getD (now (start .args .line)) 0 0) (turn-opened .ensures) (cleared .result)
-    (cleared .ensures) (visitInPlace (c .served .last .0) (c .served .result)) refl (c .served .ensures)
+    let start = c .before .before .before in
+    let told = c .enum-told in
+    open-begun-law (inPlace (now (start .args .line)) (start .args .r)) (start .args .x) (start .pre) (told .given .0 .0) (told .given .0 .1 .0)
+    (told .given .0 .1 .1 .0) (told .given .1)
+
+returns-2 : tie.Need-returns-2
+returns-2 c =
+    let start = c .before .before .before .before .before in
+    let told = c .before .before .enum-told2 in
+    nobody-begun-law (inPlace (now (start .args .line)) (start .args .r)) (start .args .x) (start .pre) (told .given .1) (c .if1 .taken)
+
+same-length : tie.Need-same-length
+same-length c = search needs
+
+returns-3 : tie.Need-returns-3
+returns-3 c =
+    let start = c .before .before .before .before .before .before .before .before .before in
+    let told = c .before .before .before .before .before .before .enum-told2 in
+    somebody-begun-law (inPlace (now (start .args .line)) (start .args .r)) (start .args .x) (start .pre) (told .given .1) (c .before .before .head-begun .ensures)
 
 pub begun-spec : {M : Type 1} → statement M
 begun-spec =
     tie.close
-    (tie.spec
-    element-copy-out-f
-    started-requires
-    allowance-requires
-    turn-opened-requires
-    cleared-requires
-    served-requires
-    returns)
+    (tie.spec enum-told enum-told-2 head-begun-requires returns returns-2 same-length returns-3)

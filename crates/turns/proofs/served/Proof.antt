@@ -12,7 +12,7 @@ first-size-requires c κs = search needs
 
 add-total : tie.Need-add-total
 add-total c =
-    let start = c .before in
+    let start = c .before .before in
     omega
     (arith, sent-small (inPlace (now (start .args .line)) (start .args .r)) (start .args .x) (start .args .allowed) (start .args .sent) (start .pre) (c .first-size .result) (c .first-size .ensures (start .pre .has-first)))
 
@@ -21,7 +21,7 @@ first-left-requires c κs = search needs
 
 turn-emptied-requires : tie.Need-turn-emptied-requires
 turn-emptied-requires c κs =
-    let start = c .before .before .before .before in
+    let start = c .before .before .before .before .before in
     let first-size = c .before .before .before .first-size in
     let first-left = c .before .before .first-left in
     may-empty (inPlace (now (start .args .line)) (start .args .r)) (start .args .x) (start .args .allowed) (start .args .sent) (start .pre)
@@ -29,14 +29,14 @@ turn-emptied-requires c κs =
 
 cleared-requires : tie.Need-cleared-requires
 cleared-requires c κs =
-    let start = c .before .before .before .before .before in
+    let start = c .before .before .before .before .before .before in
     let first-left = c .before .before .before .first-left in
     left-ready (inPlace (now (start .args .line)) (start .args .r)) (start .args .x) (start .args .allowed) (start .args .sent) (start .pre)
     (first-left .result) (first-left .ensures)
 
 returns : tie.Need-returns
 returns c =
-    let start = c .before .before .before .before .before .before in
+    let start = c .before .before .before .before .before .before .before in
     let first-size = c .before .before .before .before .before .first-size in
     let first-left = c .before .before .before .before .first-left in
     let if1 = c .before .before .if1 in
@@ -48,7 +48,7 @@ returns c =
 
 turn-closed-requires : tie.Need-turn-closed-requires
 turn-closed-requires c κs =
-    let start = c .before .before .before .before .before .before in
+    let start = c .before .before .before .before .before .before .before in
     let first-size = c .before .before .before .before .before .first-size in
     let first-left = c .before .before .before .before .first-left in
     let if1 = c .before .before .if1 in
@@ -58,22 +58,25 @@ turn-closed-requires c κs =
 
 excess-kept-requires : tie.Need-excess-kept-requires
 excess-kept-requires c κs =
-    let start = c .before .before .before .before .before .before .before in
-    let first-size = c .before .before .before .before .before .before .first-size in
-    let first-left = c .before .before .before .before .before .first-left in
-    let if1 = c .before .before .before .if1 in
-    let if2 = c .before .before .if2 in
+    let start = c .before .before .before .before .before .before .before .before .before .before in
+    let first-size = c .before .before .before .before .before .before .before .before .first-size in
+    let first-left = c .before .before .before .before .before .before .before .first-left in
+    let if1 = c .before .before .before .before .before .if1 in
+    let if2 = c .before .before .before .before .if2 in
     may-keep (inPlace (now (start .args .line)) (start .args .r)) (start .args .x) (start .args .allowed) (start .args .sent) (start .pre)
     (first-left .result) (first-left .ensures) (first-size .result) (first-size .ensures (start .pre .has-first)) (if1 .left) (omega (arith, if2 .taken))
 
+same-length : tie.Need-same-length
+same-length c = search needs
+
 returns-2 : tie.Need-returns-2
 returns-2 c =
-    let start = c .before .before .before .before .before .before .before .before in
-    let first-size = c .before .before .before .before .before .before .before .first-size in
-    let first-left = c .before .before .before .before .before .before .first-left in
-    let if1 = c .before .before .before .before .if1 in
-    let if2 = c .before .before .before .if2 in
-    let turn-closed = c .before .turn-closed in
+    let start = c .before .before .before .before .before .before .before .before .before .before .before in
+    let first-size = c .before .before .before .before .before .before .before .before .before .first-size in
+    let first-left = c .before .before .before .before .before .before .before .before .first-left in
+    let if1 = c .before .before .before .before .before .before .if1 in
+    let if2 = c .before .before .before .before .before .if2 in
+    let turn-closed = c .before .before .before .turn-closed in
     closed-visit (inPlace (now (start .args .line)) (start .args .r)) (start .args .x) (start .args .allowed) (start .args .sent) (start .pre)
     (first-left .result) (first-left .ensures) (start .args .f) (first-size .result) (first-size .ensures (start .pre .has-first))
     (inPlace (turn-closed .last .0) (turn-closed .result)) (c .excess-kept .result) (if1 .left) (omega (arith, if2 .taken)) (turn-closed .ensures)
@@ -84,7 +87,7 @@ turn-kept-requires c κs = search needs
 
 returns-3 : tie.Need-returns-3
 returns-3 c =
-    let start = c .before .before .before .before .before .before in
+    let start = c .before .before .before .before .before .before .before in
     let first-size = c .before .before .before .before .before .first-size in
     let first-left = c .before .before .before .before .first-left in
     let if1 = c .before .before .if1 in
@@ -106,6 +109,7 @@ served-spec =
     returns
     turn-closed-requires
     excess-kept-requires
+    same-length
     returns-2
     turn-kept-requires
     returns-3)
