@@ -11,7 +11,7 @@ use Rattle.steps.specs.Cells.{lineRoom}
 use Rattle.steps.specs.declared.FlowCell.{FlowCell}
 use Rattle.layout.specs.Bytes.{digits, number, sizesRoom, withSizes}
 use Rattle.layout.specs.Layout.{sizeBytes, numbersRoom, numberBytes, joined, bytesOf, sizesAt, numbersAt, lineStart, cellsLength, flowIn, flowsFrom, flowsIn, lineIn, withFlow, withOpened}
-use Rattle.layout.proofs.Bytes.{digits-length, number-of-digits}
+use Rattle.layout.proofs.Bytes.{digits-length, number-of-digits, stored, stored-is-sets}
 use Rattle.layout.proofs.Runs.{stores-in-first, stores-in-second, joined-length, joined-from, joined-stored}
 
 -- what reading past the end of the flows would give
@@ -82,7 +82,6 @@ module _ (flows : List FlowCell) (line : List ℕ) (all : length flows ≡ flowL
   unfolding bytesOf
   line-read = drop-at (joined sizeBytes flows ++ joined numberBytes flows) line lineStart (flow-bytes flows all)
 
-  -- Where a flow's sizes lie.
   sizes-there : (f : ℕ) → f < flowLimit → take sizesRoom (drop (sizesAt f) (bytesOf flows line)) ≡ sizeBytes (getD flows f noCell)
   unfolding bytesOf
   sizes-there f h =
@@ -96,7 +95,7 @@ module _ (flows : List FlowCell) (line : List ℕ) (all : length flows ≡ flowL
       ∙ ap (take sizesRoom) (append-assoc (sizeBytes x) behind (numbers ++ line))
       ∙ take-at (sizeBytes x) (behind ++ (numbers ++ line)) sizesRoom (size-wide x)
 
-  -- Where its other numbers lie.
+  -- Its other numbers lie there, and then those of the flows behind.
   numbers-there : (f : ℕ) → f < flowLimit
       → drop (numbersAt f) (bytesOf flows line) ≡ numberBytes (getD flows f noCell) ++ (joined numberBytes (drop (suc f) flows) ++ line)
   unfolding bytesOf
@@ -146,28 +145,32 @@ line-stored flows line then all =
     ap (λ (l : List ℕ). l ++ then) (take-at (joined sizeBytes flows ++ joined numberBytes flows) line lineStart (flow-bytes flows all))
 
 module _ (flows : List FlowCell) (line : List ℕ) (all : length flows ≡ flowLimit) (f : ℕ) (h : f < flowLimit) (x : FlowCell) where
-  -- A flow's weight, sizes and other numbers are stored in turn, each in its run.
+  -- The weight is stored among the numbers, then the sizes among the sizes, then the rest behind the weight.
   pub opened-stored : withOpened (bytesOf flows line) f x ≡ bytesOf (set flows f x) line
   unfolding withOpened withFlow withSizes bytesOf
   opened-stored =
       let sizes = joined sizeBytes flows in
       let numbers = joined numberBytes flows in
       let then = set flows f x in
+      let start = sizesRoom * flowLimit in
+      let at = numbersRoom * f in
       let rest = x .surplus ∷ x .slot ∷ x .waiting ∷ [] in
-      let weighed = set numbers (numbersRoom * f) (x .weight) in
-      let room = size-bytes flows all in
-      let numbersLong = number-bytes flows all in
-      let behind : numbersAt f + 1 ≡ sizesRoom * flowLimit + suc (numbersRoom * f) = omega arith in
-      ap (λ (l : List ℕ). sets (sets l (sizesAt f) (sizeBytes x)) (numbersAt f + 1) rest)
-      (stores-in-second sizes numbers line (sizesRoom * flowLimit) (numbersRoom * f) (x .weight ∷ []) room (omega arith))
-      ∙ ap (λ (l : List ℕ). sets l (numbersAt f + 1) rest)
-      (stores-in-first sizes weighed line (sizesAt f) (sizeBytes x) (omega (arith, size-wide x)))
-      ∙ ap (λ (l : List ℕ). sets (l ++ weighed ++ line) (numbersAt f + 1) rest) (joined-stored sizeBytes sizesRoom size-wide flows f x (omega arith))
+      let weighed = set numbers at (x .weight) in
+      let long = number-bytes flows all in
+      let weighedLong = length-set numbers at (x .weight) in
+      let weight : set (sizes ++ numbers ++ line) (start + at) (x .weight) ≡ sizes ++ weighed ++ line =
+      stores-in-second sizes numbers line start at (x .weight ∷ []) (size-bytes flows all) (omega arith) in
+      let size : sets (sizes ++ weighed ++ line) (sizesAt f) (sizeBytes x) ≡ joined sizeBytes then ++ weighed ++ line =
+      stores-in-first sizes weighed line (sizesAt f) (sizeBytes x) (omega (arith, size-wide x, size-bytes flows all))
+      ∙ ap (λ (l : List ℕ). l ++ weighed ++ line) (joined-stored sizeBytes sizesRoom size-wide flows f x (omega arith)) in
+      let others : sets (joined sizeBytes then ++ weighed ++ line) (start + suc at) rest ≡ joined sizeBytes then ++ joined numberBytes then ++ line =
+      stores-in-second (joined sizeBytes then) weighed line start (suc at) rest (size-bytes then (length-set flows f x ∙ all)) (omega arith)
+      ∙ ap (λ (l : List ℕ). joined sizeBytes then ++ l ++ line) (joined-stored numberBytes numbersRoom number-wide flows f x (omega arith)) in
+      let behind : numbersAt f + 1 ≡ start + suc at = omega arith in
+      ap (λ (l : List ℕ). sets (sets l (sizesAt f) (sizeBytes x)) (numbersAt f + 1) rest) weight
+      ∙ ap (λ (l : List ℕ). sets l (numbersAt f + 1) rest) size
       ∙ ap (λ (n : ℕ). sets (joined sizeBytes then ++ weighed ++ line) n rest) behind
-      ∙ stores-in-second (joined sizeBytes then) weighed line (sizesRoom * flowLimit) (suc (numbersRoom * f)) rest
-      (size-bytes then (length-set flows f x ∙ all))
-      (omega (arith, length-set numbers (numbersRoom * f) (x .weight)))
-      ∙ ap (λ (l : List ℕ). joined sizeBytes then ++ l ++ line) (joined-stored numberBytes numbersRoom number-wide flows f x (omega arith))
+      ∙ others
 
   pub flow-stored : x .weight ≡ getD flows f noCell .weight → withFlow (bytesOf flows line) f x ≡ bytesOf (set flows f x) line
   unfolding withOpened
@@ -176,3 +179,11 @@ module _ (flows : List FlowCell) (line : List ℕ) (all : length flows ≡ flowL
       let left : set cells (numbersAt f) (x .weight) ≡ cells =
       ap (set cells (numbersAt f)) (same ∙ sym (weight-there flows line all f h)) ∙ set-getD cells (numbersAt f) 0 in
       ap (λ (l : List ℕ). withFlow l f x) (sym left) ∙ opened-stored
+
+-- What the code stores of a flow whose weight lies there.
+pub flow-kept : (cells : List ℕ) (f : ℕ) (x : FlowCell) {then : List ℕ} → then ≡ withSizes cells (sizesAt f) (x .sizes)
+    → stored then (numbersAt f) 1 (x .surplus ∷ x .slot ∷ x .waiting ∷ []) ≡ withFlow cells f x
+unfolding withFlow
+flow-kept cells f x {then} e =
+    let rest = x .surplus ∷ x .slot ∷ x .waiting ∷ [] in
+    stored-is-sets then (numbersAt f) 1 rest ∙ ap (λ (l : List ℕ). sets l (numbersAt f + 1) rest) e
