@@ -1,11 +1,13 @@
--- A number is what its digits give back, where there are enough of them. Then what the code does byte by byte: the sum that it makes of the digits that
--- it reads, and the stores that it makes of those that it writes.
+-- A number is what its digits give back, where there are enough of them. Then what the code does byte by byte: the sum of those that it reads, and the
+-- stores of those that it writes.
 use Prim.Native.Nat.{ℕ, zero, suc, _+_, _*_, _/_, _%_, _^_, _≤_, _<_}
 use mathlib.Core.Path.{_≡_, refl, sym, ap, _∙_}
 use mathlib.Core.List.{List, [], _∷_, _++_}
 use native.Mathlib.Omega.{arith}
 use native.Mathlib.Numerals.{add-one}
-use native.Mathlib.Nat.{add-zero, add-suc, mul-assoc, mul-le-mul-left, pow-succ', pow-suc, pow-le-pow-right}
+use native.Mathlib.Nat.{add-zero, add-suc, mul-suc, mul-assoc, mul-le-mul-left, pow-succ', pow-suc, pow-le-pow-right}
+use mir.Syntax.{w8, w64}
+use mir.Val.{Fits}
 use lib.ListN.{length, getD, set, take, drop, length-drop}
 use lib.Seq.{sets, drop-cons, getD-drop, length-take-le, take-suc}
 use Rattle.layout.specs.Bytes.{byteLimit, digits, number, sizesRoom, withSizes}
@@ -50,14 +52,15 @@ module _ (l : List ℕ) (at : ℕ) where
       ∙ sym (number-joined (take (suc k) rest) next)
       ∙ ap number (sym (take-suc rest (suc k) 0 (omega arith)))
 
-  sum-small : ((i : ℕ) → getD l i 0 < byteLimit) → (k : ℕ) → summed l at k < byteLimit ^ suc k
-  sum-small bytes zero = bytes at
+  -- Each byte adds less than its place is worth at the next.
+  sum-small : ((i : ℕ) → Fits w8 (getD l i 0)) → (k : ℕ) → summed l at k < byteLimit ^ suc k
+  sum-small bytes zero = bytes at .fits
   sum-small bytes (suc k) =
+      let worth = byteLimit ^ suc k in
       let b = getD l (at + suc k) 0 in
-      let small : b ≤ 255 = omega (arith, bytes (at + suc k)) in
-      omega (arith, sum-small bytes k, pow-suc byteLimit (suc k), mul-le-mul-left {m = b} {n = 255} (byteLimit ^ suc k) small)
+      omega (arith, sum-small bytes k, pow-suc byteLimit (suc k), mul-suc worth b, mul-le-mul-left {m = suc b} {n = byteLimit} worth (bytes (at + suc k) .fits))
 
-  pub sum-fits : ((i : ℕ) → getD l i 0 < byteLimit) → (k : ℕ) → k < sizesRoom → summed l at k < 2 ^ 64
+  pub sum-fits : ((i : ℕ) → Fits w8 (getD l i 0)) → (k : ℕ) → k < sizesRoom → Fits w64 (summed l at k)
   sum-fits bytes k h = omega (arith, sum-small bytes k, pow-le-pow-right {n = byteLimit} (omega arith) {i = suc k} {j = sizesRoom} h)
 
 -- Stores from the i-th place behind a place on.

@@ -4,7 +4,7 @@ use mathlib.Core.Path.{_≡_, refl, sym, ap, _∙_}
 use mathlib.Core.List.{List, [], _∷_, _++_, append-nil}
 use native.Mathlib.Omega.{arith}
 use native.Mathlib.Nat.{zero-add, suc-add, add-suc, mul-suc, mul-zero, le-of-suc-le-suc}
-use lib.ListN.{length, getD, set, take, drop, length-append, length-set}
+use lib.ListN.{length, getD, set, drop, length-append, length-set}
 use lib.Seq.{sets, sets-eq, set-append-left, drop-length, drop-append-add}
 use Rattle.steps.specs.declared.FlowCell.{FlowCell}
 use Rattle.layout.specs.Layout.{joined}

@@ -1,5 +1,5 @@
 -- Each byte is small enough for its place in the sum, which is the number.
-use Prim.Native.Nat.{ℕ, _+_}
+use Prim.Native.Nat.{_+_}
 use native.Mathlib.Omega.{arith}
 use borrow.Author.Needs.{needs}
 use Rattle.layout.proofs.Bytes.{sum-is-number, sum-fits}
@@ -25,7 +25,9 @@ mul-result : tie.Need-mul-result
 mul-result c = omega (arith, c .shared-slice-known2 .given (c .before .before .args .at + 1))
 
 add-result-2 : tie.Need-add-result-2
-add-result-2 c = let start = c .before .before in record { fits = sum-fits (start .args .cells .now) (start .args .at) (λ (i : ℕ). c .shared-slice-known2 .given i .fits) 1 (omega arith) }
+add-result-2 c =
+    let args = c .before .before .args in
+    sum-fits (args .cells .now) (args .at) (c .shared-slice-known2 .given) 1 (omega arith)
 
 add-result-3 : tie.Need-add-result-3
 add-result-3 c = search needs
@@ -40,7 +42,9 @@ mul-result-2 : tie.Need-mul-result-2
 mul-result-2 c = omega (arith, c .shared-slice-known3 .given (c .before .before .before .args .at + 2))
 
 add-result-4 : tie.Need-add-result-4
-add-result-4 c = let start = c .before .before .before in record { fits = sum-fits (start .args .cells .now) (start .args .at) (λ (i : ℕ). c .shared-slice-known3 .given i .fits) 2 (omega arith) }
+add-result-4 c =
+    let args = c .before .before .before .args in
+    sum-fits (args .cells .now) (args .at) (c .shared-slice-known3 .given) 2 (omega arith)
 
 add-result-5 : tie.Need-add-result-5
 add-result-5 c = search needs
@@ -55,7 +59,9 @@ mul-result-3 : tie.Need-mul-result-3
 mul-result-3 c = omega (arith, c .shared-slice-known4 .given (c .before .before .before .before .args .at + 3))
 
 add-result-6 : tie.Need-add-result-6
-add-result-6 c = let start = c .before .before .before .before in record { fits = sum-fits (start .args .cells .now) (start .args .at) (λ (i : ℕ). c .shared-slice-known4 .given i .fits) 3 (omega arith) }
+add-result-6 c =
+    let args = c .before .before .before .before .args in
+    sum-fits (args .cells .now) (args .at) (c .shared-slice-known4 .given) 3 (omega arith)
 
 add-result-7 : tie.Need-add-result-7
 add-result-7 c = search needs
@@ -70,7 +76,9 @@ mul-result-4 : tie.Need-mul-result-4
 mul-result-4 c = omega (arith, c .shared-slice-known5 .given (c .before .before .before .before .before .args .at + 4))
 
 add-result-8 : tie.Need-add-result-8
-add-result-8 c = let start = c .before .before .before .before .before in record { fits = sum-fits (start .args .cells .now) (start .args .at) (λ (i : ℕ). c .shared-slice-known5 .given i .fits) 4 (omega arith) }
+add-result-8 c =
+    let args = c .before .before .before .before .before .args in
+    sum-fits (args .cells .now) (args .at) (c .shared-slice-known5 .given) 4 (omega arith)
 
 add-result-9 : tie.Need-add-result-9
 add-result-9 c = search needs
@@ -85,7 +93,9 @@ mul-result-5 : tie.Need-mul-result-5
 mul-result-5 c = omega (arith, c .shared-slice-known6 .given (c .before .before .before .before .before .before .args .at + 5))
 
 add-result-10 : tie.Need-add-result-10
-add-result-10 c = let start = c .before .before .before .before .before .before in record { fits = sum-fits (start .args .cells .now) (start .args .at) (λ (i : ℕ). c .shared-slice-known6 .given i .fits) 5 (omega arith) }
+add-result-10 c =
+    let args = c .before .before .before .before .before .before .args in
+    sum-fits (args .cells .now) (args .at) (c .shared-slice-known6 .given) 5 (omega arith)
 
 add-result-11 : tie.Need-add-result-11
 add-result-11 c = search needs
@@ -100,7 +110,9 @@ mul-result-6 : tie.Need-mul-result-6
 mul-result-6 c = omega (arith, c .shared-slice-known7 .given (c .before .before .before .before .before .before .before .args .at + 6))
 
 add-result-12 : tie.Need-add-result-12
-add-result-12 c = let start = c .before .before .before .before .before .before .before in record { fits = sum-fits (start .args .cells .now) (start .args .at) (λ (i : ℕ). c .shared-slice-known7 .given i .fits) 6 (omega arith) }
+add-result-12 c =
+    let args = c .before .before .before .before .before .before .before .args in
+    sum-fits (args .cells .now) (args .at) (c .shared-slice-known7 .given) 6 (omega arith)
 
 add-result-13 : tie.Need-add-result-13
 add-result-13 c = search needs
@@ -115,10 +127,14 @@ mul-result-7 : tie.Need-mul-result-7
 mul-result-7 c = omega (arith, c .shared-slice-known8 .given (c .before .before .before .before .before .before .before .before .args .at + 7))
 
 add-result-14 : tie.Need-add-result-14
-add-result-14 c = let start = c .before .before .before .before .before .before .before .before in record { fits = sum-fits (start .args .cells .now) (start .args .at) (λ (i : ℕ). c .shared-slice-known8 .given i .fits) 7 (omega arith) }
+add-result-14 c =
+    let args = c .before .before .before .before .before .before .before .before .args in
+    sum-fits (args .cells .now) (args .at) (c .shared-slice-known8 .given) 7 (omega arith)
 
 returns : tie.Need-returns
-returns c = let start = c .before .before .before .before .before .before .before .before in sum-is-number (start .args .cells .now) (start .args .at) 7 (omega arith)
+returns c =
+    let args = c .before .before .before .before .before .before .before .before .args in
+    sum-is-number (args .cells .now) (args .at) 7 (omega arith)
 
 pub number-at-spec : {M : Type 1} → statement M
 number-at-spec =
