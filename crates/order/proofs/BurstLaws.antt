@@ -4,7 +4,7 @@ use mathlib.Core.Path.{_≡_, refl, sym, ap, ap₂, _∙_, subst}
 use mathlib.Core.List.{List, [], _∷_, _++_, append-nil}
 use native.Mathlib.Omega.{arith}
 use native.Mathlib.Numerals.{add-one}
-use lib.ListN.{length, getD, set, take, drop, length-set, length-map, take-append-drop}
+use lib.ListN.{length, set, take, drop, length-set, length-map, take-append-drop}
 use lib.Seq.{take-suc-set, drop-set-lt, length-take-le, drop-drop, append-snoc}
 use mathlib.Core.Logic.{⊎-elim}
 use types.Run.{OneOf}
@@ -22,14 +22,15 @@ use Rattle.model.specs.declared.Reply.the-variants.{Departure, Idle, Refused}
 use Rattle.model.specs.declared.Sent.{Sent}
 use Rattle.model.proofs.Keeps.{departed-keeps}
 use Rattle.steps.specs.Cells.{viewFlow}
-use Rattle.order.specs.Encoding.{encode, view, Sound}
+use Rattle.layout.specs.Layout.{flowIn, lineStart, withFlow}
+use Rattle.order.specs.Encoding.{encode, view, Sound, stateWith}
 use Rattle.steps.specs.Premises.{viewRound}
 use Rattle.turns.specs.Visits.{encodeVisit, visitInPlace}
 use Rattle.order.proofs.StateLaws.{roundOf}
 use Rattle.order.specs.Promised.{countedAs, BurstGives}
 use Rattle.order.specs.declared.State.{State}
 use Rattle.turns.specs.declared.Visited.{Visited}
-use Rattle.order.proofs.StateLaws.{noCell, seen-as, sound-of, departed-state, departed-reply}
+use Rattle.order.proofs.StateLaws.{seen-as, sound-of, departed-state, departed-reply}
 
 -- After `made` departures, with the state c and the list as they then are.
 pub record Underway (s : Scheduler) (n : ℕ) (before : List ℕ) (c : State) (made : ℕ) (list : List ℕ) : Type 0 where
@@ -171,9 +172,9 @@ module _ (s : Scheduler) (n : ℕ) (before : List ℕ) (c : State) (made : ℕ) 
 -- The same of what a visit of the flow at `at` gives.
 module _ (s : Scheduler) (n : ℕ) (before : List ℕ) (c : State) (made : ℕ) (list : List ℕ) (U : Underway s n before c made list) (more : made < n)
     (at : ℕ) (e : at ≡ whose (viewRound (roundOf c))) (v : Visited) (line : List ℕ)
-    (g : visitInPlace line v ≡ encodeVisit (visit (viewRound (roundOf c)) (viewFlow (getD (c .flows) at noCell)))) where
+    (g : visitInPlace line v ≡ encodeVisit (visit (viewRound (roundOf c)) (viewFlow (flowIn (c .cells) at)))) where
   abbrev visited : State
-  visited = record { flows = set (c .flows) at (v .flow); line = line; round = v .round }
+  visited = stateWith (withFlow (take lineStart (c .cells) ++ line) at (v .flow)) (v .round)
 
   pub visit-made : (d : Sent) → v .reply ≡ Departure d → Underway s n before visited (made + 1) (set list made (d .flow))
   visit-made d r =

@@ -2,28 +2,31 @@
 -- what the model puts.
 use Prim.Native.Nat.{ℕ, zero, suc, _≤_, _<_}
 use mathlib.Core.Path.{_≡_, refl, sym, ap, ap₂, _∙_, subst}
-use mathlib.Core.List.{List, [], _∷_, map}
-use mathlib.Core.Bool.{Bool, cond}
+use mathlib.Core.List.{List, [], _∷_, _++_, map}
+use mathlib.Core.Bool.{Bool, true, false, cond}
 use native.Mathlib.Omega.{arith}
 use native.Mathlib.Decide.{decLt}
-use lib.ListN.{length, getD, set, length-map, List·getD-map}
+use lib.ListN.{length, getD, set, take, length-map, List·getD-map}
 use lib.Dec.{ltb, leb}
 use borrow.Author.Tests.{lt-ltb, le-ltb, le-leb}
 use Rattle.model.specs.Limits.{flowLimit}
 use Rattle.model.specs.Choose.{ifZero}
 use Rattle.model.specs.Model.{Flow, Round, Scheduler, closedFlow, flowAt, newScheduler}
-use Rattle.model.specs.Steps.{visit, whose, whoseTurn, packetJoined, flowLined}
+use Rattle.model.specs.Steps.{surplusCleared, firstLeft, excessKept, settled, served, visit, visitBy, whose, whoseTurn, packetJoined, flowLined}
 use Rattle.model.specs.Calls.{put, unlessRefused, openRefusal, offerRefusal, openFlow, answerOf, opened, offered, departed, nextVisit}
 use Rattle.model.specs.Rules.{Sizes, Rules}
 use Rattle.model.specs.declared.Answer.{Answer}
 use Rattle.model.specs.declared.Serving.{Serving}
-use Rattle.model.specs.declared.Serving.the-variants.{Turn}
+use Rattle.model.specs.declared.Reply.{Reply}
+use Rattle.model.specs.declared.Serving.the-variants.{NoTurn, Turn}
 use Rattle.model.proofs.Flows.{put-back, none-is-empty}
 use Rattle.model.proofs.Keeps.{new-keeps, opened-keeps, offered-keeps, departed-keeps}
 use Rattle.model.proofs.Standing.{InRange, TurnFacts, HeadFacts, in-range, room-for-another, turn-facts, head-facts, whose-in-reach}
 use Rattle.model.proofs.Choosing.{positive-chosen, chosen-has}
-use Rattle.steps.specs.Cells.{encodeFlow, viewFlow}
-use Rattle.order.specs.Encoding.{encode, view, Sound}
+use Rattle.steps.specs.Cells.{cells, lineRoom, encodeFlow, viewFlow}
+use Rattle.layout.specs.Layout.{bytesOf, cellsLength, flowIn, lineIn, lineStart, withFlow, withOpened}
+use Rattle.layout.proofs.Laws.{noCell, Fits, bytes-length, flow-read, flows-read, line-read, line-stored, flow-stored, opened-stored}
+use Rattle.order.specs.Encoding.{encode, view, Sound, stateWith}
 use Rattle.steps.specs.Places.{endPlace, nowhere, offeredPlace, joiningPlace, firstPlace, leavingPlace}
 use Rattle.steps.specs.Premises.{RoundInPlace, inPlace, numbersOf, encodeRound, viewRound, FlowReady, RoundReady, HasFirst, OfferInPlace, withLength, offerInPlace, openedParts, offeredParts}
 use Rattle.turns.specs.Visits.{MayServe, MayBegin, MayVisit, VisitInPlace, encodeVisit, visitInPlace}
@@ -38,26 +41,43 @@ use Rattle.order.specs.declared.Placed.{Placed}
 use Rattle.steps.specs.declared.RoundCell.{RoundCell}
 use Rattle.order.specs.declared.State.{State}
 use Rattle.turns.specs.declared.Visited.{Visited}
-use Rattle.steps.proofs.Encoded.{flow-seen, flow-ready, round-seen, round-ready, waiting-is, length-is}
+use Rattle.steps.proofs.Encoded.{cells-length, flow-seen, flow-ready, round-seen, waiting-is, length-is}
+use Rattle.steps.proofs.Packed.{packed-fits}
 
 -- The round of a state, as the steps have it.
 abbrev pub roundOf : State → RoundInPlace
-roundOf c = inPlace (c .line) (c .round)
+roundOf c = inPlace (lineIn (c .cells)) (c .round)
 
--- What reading past the end of the flows would give.
-abbrev pub noCell : FlowCell
-noCell = record { weight = 0; surplus = 0; slot = 0; waiting = 0; sizes = 0 }
+any-default : {A : Type 0} (l : List A) (n : ℕ) (d e : A) → n < length l → getD l n d ≡ getD l n e
+any-default [] n d e h = absurd (omega arith)
+any-default (x ∷ l) zero d e h = refl
+any-default (x ∷ l) (suc n) d e h = any-default l n d e (omega arith)
 
 flows-seen : (l : List Flow) → ((f : ℕ) → Sizes (getD l f closedFlow .queue)) → map viewFlow (map encodeFlow l) ≡ l
 flows-seen [] h = refl
 flows-seen (x ∷ l) h = ap₂ (λ (y : Flow) (k : List Flow). y ∷ k) (flow-seen x (h 0)) (flows-seen l (λ f. h (suc f)))
 
+-- The flows that a scheduler's bytes hold.
+module _ (s : Scheduler) (R : Rules s) where
+  count-of-flows : length (map encodeFlow (s .flows)) ≡ flowLimit
+  count-of-flows = length-map (s .flows) encodeFlow ∙ R .all-flows
+
+  cell-of : (f : ℕ) → f < flowLimit → getD (map encodeFlow (s .flows)) f noCell ≡ encodeFlow (flowAt s f)
+  cell-of f h = any-default (map encodeFlow (s .flows)) f noCell (encodeFlow closedFlow) (omega (arith, count-of-flows)) ∙ List·getD-map encodeFlow (s .flows) f closedFlow
+
+  cells-fit : (f : ℕ) → f < flowLimit → Fits (getD (map encodeFlow (s .flows)) f noCell)
+  unfolding encodeFlow
+  cells-fit f h = rw (cell-of f h) (packed-fits (R .flow-rules f .sizes-in-range) (R .flow-rules f .waiting-in-range))
+
 pub seen : (s : Scheduler) → Rules s → view (encode s) ≡ s
 unfolding view viewRound encode encodeRound
 seen s R =
-    ap₂ (λ (l : List Flow) (r : Round). record { flows = l; round = r })
-    (flows-seen (s .flows) (λ f. R .flow-rules f .sizes-in-range))
-    (round-seen (s .round))
+    let flows : List FlowCell = map encodeFlow (s .flows) in
+    let line : List ℕ = cells lineRoom (s .round .line) in
+    ap₂ (λ (l : List FlowCell) (k : List ℕ). record { flows = map viewFlow l; round = viewRound (inPlace k (encode s .round)) })
+    (flows-read flows line (count-of-flows s R) (cells-fit s R))
+    (line-read flows line (count-of-flows s R))
+    ∙ ap₂ (λ (l : List Flow) (r : Round). record { flows = l; round = r }) (flows-seen (s .flows) (λ f. R .flow-rules f .sizes-in-range)) (round-seen (s .round))
 
 pub seen-as : {c : State} {s : Scheduler} → Rules s → c ≡ encode s → view c ≡ s
 seen-as {c} {s} R e = ap view e ∙ seen s R
@@ -79,10 +99,24 @@ module _ {c : State} (S : Sound c) where
 pub sound-of : (s : Scheduler) → Rules s → Sound (encode s)
 sound-of s R = record { form = ap encode (sym (seen s R)); rules = subst Rules (sym (seen s R)) R }
 
-any-default : {A : Type 0} (l : List A) (n : ℕ) (d e : A) → n < length l → getD l n d ≡ getD l n e
-any-default [] n d e h = absurd (omega arith)
-any-default (x ∷ l) zero d e h = refl
-any-default (x ∷ l) (suc n) d e h = any-default l n d e (omega arith)
+-- No step changes a weight.
+joined-weight : (x : Flow) (size : ℕ) → packetJoined x size .weight ≡ x .weight
+unfolding packetJoined
+joined-weight x size = refl
+
+settled-weight : (ends : Bool) (r : Round) (x : Flow) (f allowed sent : ℕ) (reply : Reply) → settled ends r x f allowed sent reply .flow .weight ≡ x .weight
+unfolding settled excessKept
+settled-weight true r x f allowed sent reply = refl
+settled-weight false r x f allowed sent reply = refl
+
+visit-weight : (r : Round) (x : Flow) → visit r x .flow .weight ≡ x .weight
+unfolding visit visitBy served firstLeft surplusCleared
+visit-weight r x = go (r .turn) (r .line)
+  where
+    go : (turn : Serving) (line : List ℕ) → visitBy turn line r x .flow .weight ≡ x .weight
+    go (Turn f allowed sent) line = settled-weight _ _ _ _ _ _ _
+    go NoTurn [] = refl
+    go NoTurn (f ∷ line) = settled-weight _ _ _ _ _ _ _
 
 map-set : (l : List Flow) (n : ℕ) (x : Flow) → set (map encodeFlow l) n (encodeFlow x) ≡ map encodeFlow (set l n x)
 map-set [] n x = refl
@@ -90,24 +124,38 @@ map-set (y ∷ l) zero x = refl
 map-set (y ∷ l) (suc n) x = ap (λ (k : List FlowCell). encodeFlow y ∷ k) (map-set l n x)
 
 module _ (c : State) (S : Sound c) where
-  flows-are : c .flows ≡ map encodeFlow (view c .flows)
-  unfolding encode encodeRound
-  flows-are = ap (λ (k : State). k .flows) (S .form)
+  abbrev flowCells : List FlowCell
+  flowCells = map encodeFlow (view c .flows)
+
+  abbrev lineCells : List ℕ
+  lineCells = cells lineRoom (view c .round .line)
+
+  bytes-are : c .cells ≡ bytesOf flowCells lineCells
+  unfolding encode
+  bytes-are = ap (λ (k : State). k .cells) (S .form)
+
+  pub bytes-count : length (c .cells) ≡ cellsLength
+  bytes-count =
+      ap length bytes-are
+      ∙ bytes-length flowCells lineCells (count-of-flows (view c) (S .rules))
+      (cells-length lineRoom (view c .round .line) (omega (arith, in-range (view c) (S .rules) .line-in-range)))
 
   round-form : roundOf c ≡ encodeRound (viewRound (roundOf c))
   unfolding encode encodeRound view viewRound
-  round-form = ap roundOf (S .form)
+  round-form =
+      ap roundOf (S .form)
+      ∙ ap (λ (k : List ℕ). inPlace k (encode (view c) .round)) (line-read flowCells lineCells (count-of-flows (view c) (S .rules)))
 
-  cell-at : (f : ℕ) → f < flowLimit → getD (c .flows) f noCell ≡ encodeFlow (flowAt (view c) f)
+  cell-at : (f : ℕ) → f < flowLimit → flowIn (c .cells) f ≡ encodeFlow (flowAt (view c) f)
   cell-at f h =
-      ap (λ (l : List FlowCell). getD l f noCell) flows-are
-      ∙ any-default (map encodeFlow (view c .flows)) f noCell (encodeFlow closedFlow) (omega (arith, length-map (view c .flows) encodeFlow, S .rules .all-flows))
-      ∙ List·getD-map encodeFlow (view c .flows) f closedFlow
+      ap (λ (k : List ℕ). flowIn k f) bytes-are
+      ∙ flow-read flowCells lineCells (count-of-flows (view c) (S .rules)) f h (cells-fit (view c) (S .rules) f h)
+      ∙ cell-of (view c) (S .rules) f h
 
-  pub cell-ready : (f : ℕ) → f < flowLimit → FlowReady (getD (c .flows) f noCell)
+  pub cell-ready : (f : ℕ) → f < flowLimit → FlowReady (flowIn (c .cells) f)
   cell-ready f h = subst FlowReady (sym (cell-at f h)) (flow-ready (flowAt (view c) f) (S .rules .flow-rules f))
 
-  pub cell-seen : (f : ℕ) → f < flowLimit → viewFlow (getD (c .flows) f noCell) ≡ flowAt (view c) f
+  pub cell-seen : (f : ℕ) → f < flowLimit → viewFlow (flowIn (c .cells) f) ≡ flowAt (view c) f
   cell-seen f h = ap viewFlow (cell-at f h) ∙ flow-seen (flowAt (view c) f) (S .rules .flow-rules f .sizes-in-range)
 
   pub round-of-sound : RoundReady (roundOf c)
@@ -122,28 +170,46 @@ module _ (c : State) (S : Sound c) where
       }
 
   -- One flow put back, with a round.
-  put-law : (f : ℕ) (x : FlowCell) (line : List ℕ) (r : RoundCell) (y : Flow) (q : Round) → x ≡ encodeFlow y → inPlace line r ≡ encodeRound q
-      → record { flows = set (c .flows) f x; line = line; round = r } ≡ encode (put (view c) f y q)
+  put-law : (bytes : List ℕ) (f : ℕ) (x : FlowCell) (line : List ℕ) (r : RoundCell) (y : Flow) (q : Round) → bytes ≡ bytesOf (set flowCells f x) line
+      → x ≡ encodeFlow y → inPlace line r ≡ encodeRound q → stateWith bytes r ≡ encode (put (view c) f y q)
   unfolding encode encodeRound put
-  put-law f x line r y q a b =
-      ap₂ (λ (l : List FlowCell) (k : RoundInPlace). record { flows = l; line = k .line; round = numbersOf k })
-      (ap₂ (λ (l : List FlowCell) (k : FlowCell). set l f k) flows-are a ∙ map-set (view c .flows) f y)
+  put-law bytes f x line r y q stored a b =
+      ap (λ (k : List ℕ). stateWith k r) stored
+      ∙ ap₂ (λ (l : List FlowCell) (k : RoundInPlace). stateWith (bytesOf l (k .line)) (numbersOf k))
+      (ap (λ (k : FlowCell). set flowCells f k) a ∙ map-set (view c .flows) f y)
       b
+
+  module _ (f : ℕ) (h : f < flowLimit) (x : FlowCell) where
+    same-cell : getD flowCells f noCell ≡ flowIn (c .cells) f
+    same-cell = cell-of (view c) (S .rules) f h ∙ sym (cell-at f h)
+
+    -- A flow stored behind the line, and a flow stored with its weight.
+    stored-behind : (line : List ℕ) → x .weight ≡ flowIn (c .cells) f .weight → withFlow (take lineStart (c .cells) ++ line) f x ≡ bytesOf (set flowCells f x) line
+    stored-behind line w =
+        ap (λ (k : List ℕ). withFlow (take lineStart k ++ line) f x) bytes-are
+        ∙ ap (λ (k : List ℕ). withFlow k f x) (line-stored flowCells lineCells line (count-of-flows (view c) (S .rules)))
+        ∙ flow-stored flowCells line (count-of-flows (view c) (S .rules)) f h x (w ∙ ap (λ (k : FlowCell). k .weight) (sym same-cell))
+
+    stored-opened : withOpened (c .cells) f x ≡ bytesOf (set flowCells f x) (lineIn (c .cells))
+    stored-opened =
+        ap (λ (k : List ℕ). withOpened k f x) bytes-are
+        ∙ opened-stored flowCells lineCells (count-of-flows (view c) (S .rules)) f h x
+        ∙ ap (bytesOf (set flowCells f x)) (sym (ap lineIn bytes-are ∙ line-read flowCells lineCells (count-of-flows (view c) (S .rules))))
 
   -- The cell of a flow with a packet waiting.
   module _ (f : ℕ) (h : f < flowLimit) where
-    weight-is : getD (c .flows) f noCell .weight ≡ flowAt (view c) f .weight
+    weight-is : flowIn (c .cells) f .weight ≡ flowAt (view c) f .weight
     unfolding viewFlow
     weight-is = ap (λ (y : Flow). y .weight) (cell-seen f h)
 
-    surplus-is : getD (c .flows) f noCell .surplus ≡ flowAt (view c) f .surplus
+    surplus-is : flowIn (c .cells) f .surplus ≡ flowAt (view c) f .surplus
     unfolding viewFlow
     surplus-is = ap (λ (y : Flow). y .surplus) (cell-seen f h)
 
-    count-is : getD (c .flows) f noCell .waiting ≡ length (flowAt (view c) f .queue)
-    count-is = waiting-is (getD (c .flows) f noCell) (cell-ready f h .form) ∙ ap (λ (y : Flow). length (y .queue)) (cell-seen f h)
+    count-is : flowIn (c .cells) f .waiting ≡ length (flowAt (view c) f .queue)
+    count-is = waiting-is (flowIn (c .cells) f) (cell-ready f h .form) ∙ ap (λ (y : Flow). length (y .queue)) (cell-seen f h)
 
-    has-first-at : (flowAt (view c) f .queue ≡ [] → ⊥) → HasFirst (getD (c .flows) f noCell)
+    has-first-at : (flowAt (view c) f .queue ≡ [] → ⊥) → HasFirst (flowIn (c .cells) f)
     has-first-at waits =
         record {
           ready = cell-ready f h;
@@ -161,7 +227,7 @@ module _ (c : State) (S : Sound c) where
     at-in-reach = rw e (whose-in-reach (view c) (S .rules))
 
     turn-ready : (f allowed sent : ℕ) → c .round .turn ≡ Turn f allowed sent → TurnFacts (view c) f allowed sent → at ≡ f
-        → MayServe (roundOf c) (getD (c .flows) at noCell) allowed sent
+        → MayServe (roundOf c) (flowIn (c .cells) at) allowed sent
     unfolding view viewRound
     turn-ready f allowed sent t T same =
         record {
@@ -175,7 +241,7 @@ module _ (c : State) (S : Sound c) where
           more-may-be-sent = T .more-may-be-sent;
         }
 
-    head-ready : HeadFacts (view c) at → (c .round .length ≡ 0 → ⊥) → MayBegin (roundOf c) (getD (c .flows) at noCell)
+    head-ready : HeadFacts (view c) at → (c .round .length ≡ 0 → ⊥) → MayBegin (roundOf c) (flowIn (c .cells) at)
     unfolding view viewRound
     head-ready H d =
         record {
@@ -186,33 +252,42 @@ module _ (c : State) (S : Sound c) where
           owed = rw (surplus-is at at-in-reach, weight-is at at-in-reach) (H .owed);
         }
 
-    pub may-visit : MayVisit (roundOf c) (getD (c .flows) at noCell)
+    pub may-visit : MayVisit (roundOf c) (flowIn (c .cells) at)
     unfolding view viewRound
     may-visit =
         record {
           round-ready = round-of-sound;
-          flow-form = cell-ready at at-in-reach .form;
+          flow-ready = cell-ready at at-in-reach;
           in-turn = λ f allowed sent t. turn-ready f allowed sent t (turn-facts (view c) (S .rules) f allowed sent t) (e ∙ ap (λ (u : Serving). whoseTurn u (view c .round .line)) t);
           at-head = λ t d. head-ready (rw (e ∙ ap (λ (u : Serving). whoseTurn u (view c .round .line)) t) (head-facts (view c) (S .rules) t (omega (arith, length-is (roundOf c) round-form)))) d;
         }
 
-    place-seen : firstPlace at (viewFlow (getD (c .flows) at noCell)) ≡ leavingPlace (view c)
+    place-seen : firstPlace at (viewFlow (flowIn (c .cells) at)) ≡ leavingPlace (view c)
     unfolding view viewRound
     place-seen =
         ap (firstPlace at) (cell-seen at at-in-reach) ∙ ap (λ (k : ℕ). firstPlace k (flowAt (view c) k)) e
 
-    module _ (v : Visited) (line : List ℕ) (g : visitInPlace line v ≡ encodeVisit (visit (viewRound (roundOf c)) (viewFlow (getD (c .flows) at noCell)))) where
-      visit-seen : visitInPlace line v ≡ encodeVisit (nextVisit (view c))
+    module _ (v : Visited) (line : List ℕ) (g : visitInPlace line v ≡ encodeVisit (visit (viewRound (roundOf c)) (viewFlow (flowIn (c .cells) at)))) where
+      pub visit-seen : visitInPlace line v ≡ encodeVisit (nextVisit (view c))
       unfolding view viewRound
       visit-seen =
           g
           ∙ ap (λ (y : Flow). encodeVisit (visit (view c .round) y)) (cell-seen at at-in-reach)
           ∙ ap (λ (k : ℕ). encodeVisit (visit (view c .round) (flowAt (view c) k))) e
 
-      pub departed-state : record { flows = set (c .flows) at (v .flow); line = line; round = v .round } ≡ encode (departed (view c) .state)
+      weight-kept : v .flow .weight ≡ flowIn (c .cells) at .weight
+      unfolding encodeVisit encodeFlow view viewRound
+      weight-kept =
+          ap (λ (k : VisitInPlace). k .flow .weight) visit-seen
+          ∙ visit-weight (view c .round) (flowAt (view c) (whose (view c .round)))
+          ∙ ap (λ (k : ℕ). flowAt (view c) k .weight) (sym e)
+          ∙ sym (weight-is at at-in-reach)
+
+      pub departed-state : stateWith (withFlow (take lineStart (c .cells) ++ line) at (v .flow)) (v .round) ≡ encode (departed (view c) .state)
       unfolding departed encodeVisit view viewRound
       departed-state =
-          put-law at (v .flow) line (v .round) (nextVisit (view c) .flow) (nextVisit (view c) .round)
+          put-law (withFlow (take lineStart (c .cells) ++ line) at (v .flow)) at (v .flow) line (v .round) (nextVisit (view c) .flow) (nextVisit (view c) .round)
+          (stored-behind at at-in-reach (v .flow) line weight-kept)
           (ap (λ (k : VisitInPlace). k .flow) visit-seen)
           (ap (λ (k : VisitInPlace). k .round) visit-seen)
           ∙ ap (λ (k : ℕ). encode (put (view c) k (nextVisit (view c) .flow) (nextVisit (view c) .round))) e
@@ -221,8 +296,8 @@ module _ (c : State) (S : Sound c) where
       unfolding departed encodeVisit
       departed-reply = ap (λ (k : VisitInPlace). k .reply) visit-seen
 
-      pub departed-gives : (from : Place) → (FlowReady (getD (c .flows) at noCell) → from ≡ firstPlace at (viewFlow (getD (c .flows) at noCell)))
-          → DepartGives c (record { state = record { flows = set (c .flows) at (v .flow); line = line; round = v .round }; reply = v .reply; from = from })
+      pub departed-gives : (from : Place) → (FlowReady (flowIn (c .cells) at) → from ≡ firstPlace at (viewFlow (flowIn (c .cells) at)))
+          → DepartGives c (record { state = stateWith (withFlow (take lineStart (c .cells) ++ line) at (v .flow)) (v .round); reply = v .reply; from = from })
       unfolding departedAs
       departed-gives from lay =
           record {
@@ -278,13 +353,13 @@ module _ (c : State) (S : Sound c) where
             | no b ↦ refuses looked-at (omega arith) ∙ sym (refuses (flowAt (view c) f) (omega arith))
           ]
 
-      module _ (cell : FlowCell) (line : List ℕ) (r : RoundCell) (answer : Answer) (x : Flow) (i : x ≡ looked-at)
-          (g : cell ≡ encodeFlow (ifZero (ρ x) (flow x) x)) (h : inPlace line r ≡ encodeRound (ifZero (ρ x) (round x) (view c .round))) (k : answer ≡ answerOf (ρ x)) where
-        asked-state : record { flows = set (c .flows) at cell; line = line; round = r }
+      module _ (bytes : List ℕ) (cell : FlowCell) (line : List ℕ) (r : RoundCell) (answer : Answer) (x : Flow) (i : x ≡ looked-at)
+          (stored : bytes ≡ bytesOf (set flowCells at cell) line) (g : cell ≡ encodeFlow (ifZero (ρ x) (flow x) x)) (h : inPlace line r ≡ encodeRound (ifZero (ρ x) (round x) (view c .round))) (k : answer ≡ answerOf (ρ x)) where
+        asked-state : stateWith bytes r
             ≡ encode (unlessRefused (ρ (flowAt (view c) f)) (view c) (put (view c) f (flow (flowAt (view c) f)) (round (flowAt (view c) f))) .state)
         unfolding unlessRefused
         asked-state =
-            put-law at cell line r (ifZero (ρ x) (flow x) x) (ifZero (ρ x) (round x) (view c .round)) g h
+            put-law bytes at cell line r (ifZero (ρ x) (flow x) x) (ifZero (ρ x) (round x) (view c .round)) stored g h
             ∙ ap encode
             (ap (λ (y : Flow). put (view c) at (ifZero (ρ y) (flow y) y) (ifZero (ρ y) (round y) (view c .round))) i
             ∙ put-unless (ρ looked-at) (flow looked-at) (round looked-at) effect-here
@@ -295,7 +370,7 @@ module _ (c : State) (S : Sound c) where
         unfolding unlessRefused
         asked-answer = k ∙ ap (λ (y : Flow). answerOf (ρ y)) i ∙ ap answerOf same-number
 
-        asked-outcome : record { state = record { flows = set (c .flows) at cell; line = line; round = r }; answer = answer }
+        asked-outcome : record { state = stateWith bytes r; answer = answer }
             ≡ answeredAs (unlessRefused (ρ (flowAt (view c) f)) (view c) (put (view c) f (flow (flowAt (view c) f)) (round (flowAt (view c) f))))
         unfolding answeredAs
         asked-outcome = ap₂ (λ (t : State) (d : Answer). record { state = t; answer = d }) asked-state asked-answer
@@ -303,8 +378,8 @@ module _ (c : State) (S : Sound c) where
     no-such-flow : (rest : ℕ) → flowLimit ≤ f → cond (leb flowLimit f) 1 rest ≡ 1
     no-such-flow rest h = ap (λ (t : Bool). cond t 1 rest) (le-leb flowLimit f h)
 
-    pub opened-gives : (weight : ℕ) (a : Opened) → a ≡ openedParts (getD (c .flows) at noCell) f weight
-        → OpenGives c f weight (record { state = record { flows = set (c .flows) at (a .flow); line = c .line; round = c .round }; answer = a .answer })
+    pub opened-gives : (weight : ℕ) (a : Opened) → a ≡ openedParts (flowIn (c .cells) at) f weight
+        → OpenGives c f weight (record { state = stateWith (withOpened (c .cells) at (a .flow)) (c .round); answer = a .answer })
     unfolding openedParts view viewRound opened answeredAs
     opened-gives weight a g =
         record {
@@ -313,29 +388,30 @@ module _ (c : State) (S : Sound c) where
         }
       where
         x : Flow
-        x = viewFlow (getD (c .flows) at noCell)
+        x = viewFlow (flowIn (c .cells) at)
 
-        outcome-here : record { state = record { flows = set (c .flows) at (a .flow); line = c .line; round = c .round }; answer = a .answer }
+        outcome-here : record { state = stateWith (withOpened (c .cells) at (a .flow)) (c .round); answer = a .answer }
             ≡ answeredAs (opened (view c) f weight)
         outcome-here =
             asked-outcome (openRefusal f weight) (λ y h. no-such-flow _ h) (λ y. openFlow weight) (λ y. view c .round)
-            (a .flow) (c .line) (c .round) (a .answer) x (cell-seen at index-in-reach)
+            (withOpened (c .cells) at (a .flow)) (a .flow) (lineIn (c .cells)) (c .round) (a .answer) x (cell-seen at index-in-reach)
+            (stored-opened at index-in-reach (a .flow))
             (ap (λ (k : Opened). k .flow) g)
             (round-form ∙ ap encodeRound (sym (chosen-has (λ (r : Round). r ≡ view c .round) (openRefusal f weight x) (view c .round) (view c .round) (λ z. refl) refl)))
             (ap (λ (k : Opened). k .answer) g)
 
-    room-in-line : f < flowLimit → getD (c .flows) at noCell .waiting ≡ 0 → c .round .length < flowLimit
+    room-in-line : f < flowLimit → flowIn (c .cells) at .waiting ≡ 0 → c .round .length < flowLimit
     unfolding view viewRound
     room-in-line b z =
         omega (arith, length-is (roundOf c) round-form, room-for-another (view c) (S .rules) at index-in-reach (none-is-empty (flowAt (view c) at .queue) (sym (count-is at index-in-reach) ∙ z)))
 
     pub may-offer-to : RoundReady (roundOf c)
-        × (FlowReady (getD (c .flows) at noCell) × (f < flowLimit → getD (c .flows) at noCell .waiting ≡ 0 → c .round .length < flowLimit))
+        × (FlowReady (flowIn (c .cells) at) × (f < flowLimit → flowIn (c .cells) at .waiting ≡ 0 → c .round .length < flowLimit))
     may-offer-to = (round-of-sound, (cell-ready at index-in-reach, room-in-line))
 
-    pub offered-gives : (size : ℕ) (o : Offered) (line : List ℕ) → offerInPlace line (c .round) o ≡ offeredParts (roundOf c) (getD (c .flows) at noCell) f size
-        → OfferGives c f size (record { state = record { flows = set (c .flows) at (o .flow); line = line; round = withLength (c .round) (o .length) }; answer = o .answer; into = o .into })
-    unfolding offeredParts view viewRound offered answeredAs offeredAs
+    pub offered-gives : (size : ℕ) (o : Offered) (line : List ℕ) → offerInPlace line (c .round) o ≡ offeredParts (roundOf c) (flowIn (c .cells) at) f size
+        → OfferGives c f size (record { state = stateWith (withFlow (take lineStart (c .cells) ++ line) at (o .flow)) (withLength (c .round) (o .length)); answer = o .answer; into = o .into })
+    unfolding offeredParts view viewRound offered answeredAs offeredAs encodeFlow viewFlow
     offered-gives size o line g =
         record {
           outcome = λ i. record { state = outcome-here i .state; answer = outcome-here i .answer; into = place-here i };
@@ -343,13 +419,19 @@ module _ (c : State) (S : Sound c) where
         }
       where
         x : Flow
-        x = viewFlow (getD (c .flows) at noCell)
+        x = viewFlow (flowIn (c .cells) at)
 
-        outcome-here : record { state = record { flows = set (c .flows) at (o .flow); line = line; round = withLength (c .round) (o .length) }; answer = o .answer }
+        weight-kept : o .flow .weight ≡ flowIn (c .cells) at .weight
+        weight-kept =
+            ap (λ (k : OfferInPlace). k .flow .weight) g
+            ∙ chosen-has (λ (y : Flow). y .weight ≡ x .weight) (offerRefusal f size x) (packetJoined x size) x (λ z. joined-weight x size) refl
+
+        outcome-here : record { state = stateWith (withFlow (take lineStart (c .cells) ++ line) at (o .flow)) (withLength (c .round) (o .length)); answer = o .answer }
             ≡ answeredAs (offered (view c) f size)
         outcome-here =
             asked-outcome (offerRefusal f size) (λ y h. no-such-flow _ h) (λ y. packetJoined y size) (λ y. flowLined (view c .round) f y)
-            (o .flow) line (withLength (c .round) (o .length)) (o .answer) x (cell-seen at index-in-reach)
+            (withFlow (take lineStart (c .cells) ++ line) at (o .flow)) (o .flow) line (withLength (c .round) (o .length)) (o .answer) x (cell-seen at index-in-reach)
+            (stored-behind at index-in-reach (o .flow) line weight-kept)
             (ap (λ (k : OfferInPlace). k .flow) g) (ap (λ (k : OfferInPlace). k .round) g) (ap (λ (k : OfferInPlace). k .answer) g)
 
         place-here : o .into ≡ joiningPlace (view c) f size

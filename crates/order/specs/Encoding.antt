@@ -1,17 +1,19 @@
 -- The state as code keeps it stands for one scheduler of the model, and a scheduler has one form only.
+use Prim.Native.Nat.{ℕ}
 use mathlib.Core.Path.{_≡_}
-use mathlib.Core.List.{map}
+use mathlib.Core.List.{List, map}
 use lib.ListN.{length, take}
 use Rattle.model.specs.Model.{Scheduler}
 use Rattle.model.specs.Rules.{Rules}
 use Rattle.steps.specs.Cells.{cells, lineRoom, encodeFlow, viewFlow}
+use Rattle.steps.specs.declared.RoundCell.{RoundCell}
+use Rattle.layout.specs.Layout.{bytesOf, flowsIn, lineIn}
 use Rattle.order.specs.declared.State.{State}
 
 unfoldable pub encode : Scheduler → State
 encode s =
     record {
-      flows = map encodeFlow (s .flows);
-      line = cells lineRoom (s .round .line);
+      cells = bytesOf (map encodeFlow (s .flows)) (cells lineRoom (s .round .line));
       round =
           record {
             length = length (s .round .line);
@@ -26,10 +28,10 @@ encode s =
 unfoldable pub view : State → Scheduler
 view c =
     record {
-      flows = map viewFlow (c .flows);
+      flows = map viewFlow (flowsIn (c .cells));
       round =
           record {
-            line = take (c .round .length) (c .line);
+            line = take (c .round .length) (lineIn (c .cells));
             visits = c .round .visits;
             mark = c .round .mark;
             running = c .round .running;
@@ -42,3 +44,7 @@ view c =
 pub record Sound (c : State) : Type 0 where
   pub form : c ≡ encode (view c)
   pub rules : Rules (view c)
+
+-- The state whose bytes are lent to a call.
+abbrev pub stateWith : List ℕ → RoundCell → State
+stateWith bytes r = record { cells = bytes; round = r }

@@ -6,13 +6,18 @@ use mathlib.Core.List.{List}
 use Rattle.model.specs.Model.{Scheduler, newScheduler}
 use Rattle.model.specs.Calls.{Outcome, Burst, opened, offered, departed, burst}
 use Rattle.model.specs.declared.Answer.{Answer}
-use Rattle.order.specs.Encoding.{encode, view, Sound}
+use Rattle.order.specs.Encoding.{encode, view, Sound, stateWith}
 use Rattle.steps.specs.Places.{joiningPlace, leavingPlace}
+use Rattle.steps.specs.Premises.{withLength}
+use Rattle.steps.specs.declared.RoundCell.{RoundCell}
 use Rattle.order.specs.declared.State.{State}
 use Rattle.order.specs.declared.Answered.{Answered}
 use Rattle.order.specs.declared.Departed.{Departed}
 use Rattle.order.specs.declared.Placed.{Placed}
 use Rattle.order.specs.declared.Counted.{Counted}
+use Rattle.order.specs.declared.LentOffer.{LentOffer}
+use Rattle.order.specs.declared.LentDeparture.{LentDeparture}
+use Rattle.order.specs.declared.LentBurst.{LentBurst}
 
 -- An outcome of the model, as code gives it.
 unfoldable pub answeredAs : Outcome Answer → Answered
@@ -49,3 +54,16 @@ pub record BurstGives (s : State) (n : ℕ) (before list : List ℕ) (r : Counte
   pub outcome : r ≡ countedAs (burst (view s) n before)
   pub written : list ≡ burst (view s) n before .list
   pub sound : Sound (r .state)
+
+-- What a call in place makes of the bytes lent, as the same call on the state gives it.
+abbrev pub openedIn : List ℕ → RoundCell → Answer → Answered
+openedIn bytes r a = record { state = stateWith bytes r; answer = a }
+
+abbrev pub placedIn : List ℕ → RoundCell → LentOffer → Placed
+placedIn bytes r o = record { state = stateWith bytes (withLength r (o .length)); answer = o .answer; into = o .into }
+
+abbrev pub departedIn : List ℕ → LentDeparture → Departed
+departedIn bytes d = record { state = stateWith bytes (d .round); reply = d .reply; from = d .from }
+
+abbrev pub countedIn : List ℕ → LentBurst → Counted
+countedIn bytes b = record { state = stateWith bytes (b .round); count = b .count }

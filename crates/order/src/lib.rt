@@ -1,24 +1,20 @@
 // The calls on packet sizes: document 01's order layer. Each takes the scheduler's state and hands it back beside its reply.
-ghost use Rattle.order.specs.Encoding.{Sound};
-ghost use Rattle.order.specs.Promised.{NewGives, OpenGives, OfferGives, DepartGives, BurstGives};
+ghost use Rattle.order.specs.Encoding.{stateWith, Sound};
+ghost use Rattle.order.specs.Promised.{NewGives, OpenGives, OfferGives, DepartGives, BurstGives, openedIn, placedIn, departedIn, countedIn};
+use layout::CELLS;
 use model::Answer;
 use model::Count;
-use model::FLOW_LIMIT;
-use model::LIST_SHORT;
 use model::Reply;
 use model::Serving;
-use steps::FlowCell;
-use steps::LINE_ROOM;
 use steps::Place;
 use steps::RoundCell;
-use steps::ask;
-use steps::flow;
 
-// The scheduler's state, which only the calls make. The flow numbers of the line lie in the first cells. Its cells' types are public because states
-// lie in other crates' structs; no call takes or gives a cell.
+pub mod in_place;
+
+// The scheduler's state, which only the calls make: the bytes of its flows and its line, and its round. The round's type is public because states lie in
+// other crates' structs.
 pub struct State {
-    flows: [FlowCell; FLOW_LIMIT],
-    line: [u8; LINE_ROOM],
+    cells: [u8; CELLS],
     round: RoundCell,
 }
 
@@ -46,18 +42,57 @@ pub struct Counted {
     pub count: Count,
 }
 
-// A call changes the state that it was handed in place, and hands it back: that costs the fewest copies.
+// The same of calls in place, where the bytes of the state are lent: the round, or of it the line's length, is handed back. No user calls these.
+pub struct LentOffer {
+    pub length: u8,
+    pub answer: Answer,
+    pub into: Place,
+}
+
+pub struct LentDeparture {
+    pub round: RoundCell,
+    pub reply: Reply,
+    pub from: Place,
+}
+
+pub struct LentBurst {
+    pub round: RoundCell,
+    pub count: Count,
+}
+
+// A state lends its bytes as an array, and the calls in place take any bytes lent.
+fn open_in(cells: &mut [u8; CELLS], r: RoundCell, f: usize, weight: usize) -> Answer
+    requires { ⌜ Sound (stateWith (now cells) r) ⌝ }
+    ensures { λ a. ⌜ OpenGives (stateWith (now (cells .entry)) r) f weight (openedIn (now (cells .exit)) r a) ⌝ }
+{
+    in_place::open(cells, r, f, weight)
+}
+
+fn offer_in(cells: &mut [u8; CELLS], r: RoundCell, f: usize, size: usize) -> LentOffer
+    requires { ⌜ Sound (stateWith (now cells) r) ⌝ }
+    ensures { λ o. ⌜ OfferGives (stateWith (now (cells .entry)) r) f size (placedIn (now (cells .exit)) r o) ⌝ }
+{
+    in_place::offer(cells, r, f, size)
+}
+
+fn depart_in(cells: &mut [u8; CELLS], r: RoundCell) -> LentDeparture
+    requires { ⌜ Sound (stateWith (now cells) r) ⌝ }
+    ensures { λ d. ⌜ DepartGives (stateWith (now (cells .entry)) r) (departedIn (now (cells .exit)) d) ⌝ }
+{
+    in_place::depart(cells, r)
+}
+
+fn burst_in(cells: &mut [u8; CELLS], r: RoundCell, n: usize, list: &mut [u8]) -> LentBurst
+    requires { ⌜ Sound (stateWith (now cells) r) ⌝ }
+    ensures { λ b. ⌜ BurstGives (stateWith (now (cells .entry)) r) n (now (list .entry)) (now (list .exit)) (countedIn (now (cells .exit)) b) ⌝ }
+{
+    in_place::burst(cells, r, n, list)
+}
+
 impl State {
     pub fn new() -> State
         ensures { λ r. ⌜ NewGives r ⌝ }
     {
-        let closed = FlowCell {
-            weight: 0,
-            surplus: 0,
-            slot: 0,
-            waiting: 0,
-            sizes: 0,
-        };
         let round = RoundCell {
             length: 0,
             visits: 0,
@@ -66,8 +101,7 @@ impl State {
             turn: Serving::NoTurn,
         };
         State {
-            flows: [closed; FLOW_LIMIT],
-            line: [0u8; LINE_ROOM],
+            cells: [0u8; CELLS],
             round: round,
         }
     }
@@ -82,11 +116,8 @@ impl State {
         requires { ⌜ Sound self ⌝ }
         ensures { λ r. ⌜ OpenGives self f weight r ⌝ }
     {
-        let at = ask::index(f);
-        let step = ask::opened(self.flows[at], f, weight);
-        let flow = step.flow;
-        self.flows[at] = flow;
-        let answer = step.answer;
+        let round = self.round;
+        let answer = open_in(&mut self.cells, round, f, weight);
         Answered {
             state: self,
             answer: answer,
@@ -97,12 +128,8 @@ impl State {
         requires { ⌜ Sound self ⌝ }
         ensures { λ r. ⌜ OfferGives self f size r ⌝ }
     {
-        let at = ask::index(f);
         let round = self.round;
-        let flow = self.flows[at];
-        let step = ask::offered(&mut self.line, round, flow, f, size);
-        let queue = step.flow;
-        self.flows[at] = queue;
+        let step = offer_in(&mut self.cells, round, f, size);
         let length = step.length;
         self.round.length = length;
         let answer = step.answer;
@@ -119,15 +146,11 @@ impl State {
         ensures { λ r. ⌜ DepartGives self r ⌝ }
     {
         let round = self.round;
-        let at = turns::whose(self.line[0], round);
-        let flow = self.flows[at];
-        let step = turns::visit(&mut self.line, round, flow);
-        let rest = step.flow;
-        self.flows[at] = rest;
+        let step = depart_in(&mut self.cells, round);
         let after = step.round;
         self.round = after;
-        let from = flow::first_place(at, flow);
         let reply = step.reply;
+        let from = step.from;
         Departed {
             state: self,
             reply: reply,
@@ -140,42 +163,14 @@ impl State {
         requires { ⌜ Sound self ⌝ }
         ensures { λ r. ⌜ BurstGives self n (now (list .entry)) (now (list .exit)) r ⌝ }
     {
-        if list.len() < n {
-            return Counted {
-                state: self,
-                count: Count::Refused(LIST_SHORT),
-            };
-        }
-        let mut line = self.line;
-        let mut round = self.round;
-        let mut made = 0;
-        while made < n {
-            let at = turns::whose(line[0], round);
-            let flow = self.flows[at];
-            let step = turns::visit(&mut line, round, flow);
-            let rest = step.flow;
-            self.flows[at] = rest;
-            let after = step.round;
-            round = after;
-            let reply = step.reply;
-            let Reply::Departure(sent) = reply else {
-                self.line = line;
-                self.round = round;
-                let fewer = Count::Made(made);
-                return Counted {
-                    state: self,
-                    count: fewer,
-                };
-            };
-            list[made] = sent.flow;
-            made += 1;
-        }
-        self.line = line;
-        self.round = round;
-        let all = Count::Made(made);
+        let round = self.round;
+        let step = burst_in(&mut self.cells, round, n, list);
+        let after = step.round;
+        self.round = after;
+        let count = step.count;
         Counted {
             state: self,
-            count: all,
+            count: count,
         }
     }
 }
