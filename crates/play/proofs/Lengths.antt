@@ -21,6 +21,7 @@ use Rattle.model.specs.declared.Sent.{Sent}
 use Rattle.model.proofs.Keeps.{new-keeps, opened-keeps, offered-keeps, departed-keeps, departures-keep}
 use Rattle.model.proofs.Told.{ToldInRange, told-in-range}
 use Rattle.model.proofs.Departing.{idle-stays, never-refused}
+use Rattle.model.proofs.Waiting.{waiting, nothing-waits, opening-waits, offering-waits, one-less}
 use Rattle.lines.specs.Text.{bytes}
 use Rattle.lines.specs.Line.{lineAt}
 use Rattle.lines.specs.Written.{decimal, field, eventText, written}
@@ -38,7 +39,6 @@ use Rattle.play.specs.Transcript.{inputLimit, outputLimit, replyText, li
 use Rattle.play.proofs.PlayLaws.{too-long, short-enough}
 use Rattle.play.proofs.ScriptLaws.{ends, reads, spoils}
 use Rattle.play.proofs.StoryLaws.{text-append, text-of-one}
-use Rattle.play.proofs.Waiting.{waiting, nothing-waits, opening-waits, offering-waits, one-less}
 
 -- ---- the lengths of printed lines
 

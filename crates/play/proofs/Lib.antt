@@ -5,7 +5,6 @@ pub mod ScriptLaws
 mod StoryLaws
 mod CourseLaws
 mod PlayLaws
-mod Waiting
 pub mod Lengths
 pub mod Worked
 pub mod Example

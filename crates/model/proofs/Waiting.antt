@@ -1,20 +1,23 @@
--- How many packets wait in all flows together, and what each call makes of that number.
-use Prim.Native.Nat.{ℕ, zero, suc, _+_, _<_, _≤_}
+-- How many packets wait in all flows together, what each call makes of that number, and that no burst makes more departures.
+use Prim.Native.Nat.{ℕ, zero, suc, _+_, _*_, _<_, _≤_}
 use native.Mathlib.Decide.{decLt}
 use native.Mathlib.Omega.{arith}
 use mathlib.Core.List.{List, [], _∷_}
 use mathlib.Core.Path.{_≡_, refl, ap, subst}
 use lib.ListN.{length, getD, set, length-append, List·getD-eq-default}
 use lib.Seq.{set-out}
+use Rattle.model.specs.Limits.{flowLimit, queueLimit}
 use Rattle.model.specs.Model.{Flow, Scheduler, closedFlow, flowAt, newScheduler}
 use Rattle.model.specs.Steps.{packetJoined, flowLined, whose}
-use Rattle.model.specs.Calls.{put, openFlow, nextVisit, departed}
+use Rattle.model.specs.Calls.{put, openFlow, nextVisit, departed, andThen, departures}
 use Rattle.model.specs.Rules.{Rules}
-use Rattle.model.specs.declared.Reply.the-variants.{Departure}
+use Rattle.model.specs.declared.Reply.{Reply}
+use Rattle.model.specs.declared.Reply.the-variants.{Departure, Idle, Refused}
 use Rattle.model.specs.declared.Sent.{Sent}
 use Rattle.model.proofs.Standing.{whose-in-reach}
 use Rattle.model.proofs.Flows.{here-now}
+use Rattle.model.proofs.Keeps.{departed-keeps}
 use Rattle.model.proofs.Departing.{Leaves, departed-leaves}
 
 -- ---- the packets of a list of flows
 
@@ -82,3 +85,32 @@ one-less s R d e =
 
     left : flowAt (departed s .state) f ≡ nextVisit s .flow
     left = here-now s R (whose-in-reach s R) (nextVisit s .flow) (nextVisit s .round)
+
+-- ---- the most that wait, and so the most departures
+
+queuedInAll-at-most : (l : List Flow) (k : ℕ) → ((f : ℕ) → queued l f ≤ k) → queuedInAll l ≤ length l * k
+unfolding queuedInAll queued
+queuedInAll-at-most [] k h = omega arith
+queuedInAll-at-most (x ∷ l) k h = omega (arith, h 0, queuedInAll-at-most l k (λ f. h (suc f)))
+
+pub waiting-at-most : (s : Scheduler) → Rules s → waiting s ≤ flowLimit * queueLimit
+unfolding waiting queued
+waiting-at-most s R = omega (arith, queuedInAll-at-most (s .flows) queueLimit (λ f. R .flow-rules f .waiting-in-range), R .all-flows)
+
+-- Each departure takes a packet that waits.
+made-from-waiting : (n : ℕ) (s : Scheduler) → Rules s → length (departures n s .sent) ≤ waiting s
+unfolding departures andThen
+made-from-waiting zero s R = omega arith
+made-from-waiting (suc n) s R = by-reply (departed s .reply) refl (made-from-waiting n after (departed-keeps s R))
+  where
+    after : Scheduler
+    after = departed s .state
+
+    by-reply : (reply : Reply) → departed s .reply ≡ reply → length (departures n after .sent) ≤ waiting after
+        → length (andThen reply after (departures n after) .sent) ≤ waiting s
+    by-reply (Departure d) e rest = omega (arith, one-less s R d e)
+    by-reply Idle e rest = omega arith
+    by-reply (Refused k) e rest = omega arith
+
+pub made-at-most : (n : ℕ) (s : Scheduler) → Rules s → length (departures n s .sent) ≤ flowLimit * queueLimit
+made-at-most n s R = omega (arith, made-from-waiting n s R, waiting-at-most s R)
