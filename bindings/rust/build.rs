@@ -5,8 +5,12 @@ use std::path::PathBuf;
 
 fn main() {
     println!("cargo:rerun-if-env-changed=HOUGHBREEZE_ARCHIVE_DIR");
-    let built = || PathBuf::from(env::var_os("CARGO_MANIFEST_DIR").unwrap()).join("../../target/staticlib");
+    let built =
+        || PathBuf::from(env::var_os("CARGO_MANIFEST_DIR").unwrap()).join("../../target/staticlib");
     let folder = env::var_os("HOUGHBREEZE_ARCHIVE_DIR").map_or_else(built, PathBuf::from);
-    println!("cargo:rerun-if-changed={}", folder.join("libhoughbreeze.a").display());
+    println!(
+        "cargo:rerun-if-changed={}",
+        folder.join("libhoughbreeze.a").display()
+    );
     println!("cargo:rustc-link-search=native={}", folder.display());
 }

@@ -88,7 +88,11 @@ impl Draws {
     }
 
     pub fn asked(&mut self) -> usize {
-        let near = if self.one_in(8) { self.below(300) } else { self.below(12) };
+        let near = if self.one_in(8) {
+            self.below(300)
+        } else {
+            self.below(12)
+        };
         self.far(near)
     }
 

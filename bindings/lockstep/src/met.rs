@@ -11,14 +11,45 @@ pub struct Met(BTreeMap<(&'static str, String), u64>);
 const MUST: [(&str, &[&str]); 11] = [
     ("hb_reset", &["done"]),
     ("hb_open", &["done", "refused 1", "refused 2", "refused 3"]),
-    ("hb_offer", &["done", "refused 1", "refused 4", "refused 5", "refused 6"]),
+    (
+        "hb_offer",
+        &["done", "refused 1", "refused 4", "refused 5", "refused 6"],
+    ),
     ("hb_depart", &["departure", "idle"]),
     ("hb_burst", &["whole", "early", "none", "refused 9"]),
     ("hb_site_reset", &["done"]),
-    ("hb_site_open", &["done", "refused 1", "refused 2", "refused 3"]),
-    ("hb_site_offer", &["done", "refused 8", "refused 1", "refused 4", "refused 5", "refused 6"]),
-    ("hb_site_depart", &["departure", "idle", "refused 8", "refused 7"]),
-    ("wrapper", &["done", "departure", "idle", "whole", "early", "none", "refused 1", "refused 6"]),
+    (
+        "hb_site_open",
+        &["done", "refused 1", "refused 2", "refused 3"],
+    ),
+    (
+        "hb_site_offer",
+        &[
+            "done",
+            "refused 8",
+            "refused 1",
+            "refused 4",
+            "refused 5",
+            "refused 6",
+        ],
+    ),
+    (
+        "hb_site_depart",
+        &["departure", "idle", "refused 8", "refused 7"],
+    ),
+    (
+        "wrapper",
+        &[
+            "done",
+            "departure",
+            "idle",
+            "whole",
+            "early",
+            "none",
+            "refused 1",
+            "refused 6",
+        ],
+    ),
     ("null", &["list", "packet", "store", "outgoing"]),
 ];
 
@@ -61,13 +92,18 @@ impl Met {
 
     fn sum(&self, call: &str, what: &str) -> u64 {
         let counts = self.0.iter();
-        counts.filter(|((c, w), _)| (call.is_empty() || *c == call) && (what.is_empty() || w == what)).map(|(_, n)| n).sum()
+        counts
+            .filter(|((c, w), _)| (call.is_empty() || *c == call) && (what.is_empty() || w == what))
+            .map(|(_, n)| n)
+            .sum()
     }
 }
 
 impl fmt::Display for Met {
     fn fmt(&self, out: &mut fmt::Formatter) -> fmt::Result {
-        let refusals: Vec<String> = (1..=9).map(|k| self.sum("", &format!("refused {k}")).to_string()).collect();
+        let refusals: Vec<String> = (1..=9)
+            .map(|k| self.sum("", &format!("refused {k}")).to_string())
+            .collect();
         write!(
             out,
             "{} departures, {} idle, refusals 1 to 9: {}, bursts whole {}, early {}, of none {}; null pointers {}; by the wrapper {}",

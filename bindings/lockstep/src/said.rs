@@ -25,7 +25,10 @@ impl Said {
         let none = hb_reply::default();
         match self {
             Said::Reset | Said::Opened => none,
-            Said::Accepted { slot } => hb_reply { slot: slot as u16, ..none },
+            Said::Accepted { slot } => hb_reply {
+                slot: slot as u16,
+                ..none
+            },
             Said::Left { departure, slot } => hb_reply {
                 kind: raw::HB_DEPARTURE,
                 flow: departure.flow as u16,
@@ -35,8 +38,15 @@ impl Said {
                 slot: slot as u16,
                 ..none
             },
-            Said::Idle => hb_reply { kind: raw::HB_IDLE, ..none },
-            Said::Count(count) => hb_reply { kind: raw::HB_COUNT, count: count as u16, ..none },
+            Said::Idle => hb_reply {
+                kind: raw::HB_IDLE,
+                ..none
+            },
+            Said::Count(count) => hb_reply {
+                kind: raw::HB_COUNT,
+                count: count as u16,
+                ..none
+            },
             Said::Refused(number) => hb_reply {
                 kind: raw::HB_REFUSED,
                 refusal: u16::from(number),
@@ -64,12 +74,17 @@ impl Slots {
     }
 
     pub fn offered(&mut self, flow: i64, reply: Result<(), Refusal>) -> Said {
-        reply.map_or_else(refused, |()| Said::Accepted { slot: next(&mut self.joined, flow) })
+        reply.map_or_else(refused, |()| Said::Accepted {
+            slot: next(&mut self.joined, flow),
+        })
     }
 
     pub fn departed(&mut self, reply: Result<Option<Departure>, Refusal>) -> Said {
         match reply {
-            Ok(Some(departure)) => Said::Left { departure, slot: next(&mut self.left, departure.flow) },
+            Ok(Some(departure)) => Said::Left {
+                departure,
+                slot: next(&mut self.left, departure.flow),
+            },
             Ok(None) => Said::Idle,
             Err(refusal) => refused(refusal),
         }

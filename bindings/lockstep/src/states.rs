@@ -31,7 +31,7 @@ pub struct States {
     /// The images as the last call left them.
     before: Vec<u8>,
     beside: Vec<Beside>,
-    list: Twins,
+    list: Twin,
     packet: Twins,
     outgoing: Twins,
 }
@@ -60,7 +60,7 @@ impl States {
             before: images.clone(),
             images,
             beside,
-            list: Twins::new(LIST, draws),
+            list: Twin::new(LIST, draws),
             packet: Twins::new(STORE + 1, draws),
             outgoing: Twins::new(STORE + 1, draws),
         }
@@ -69,20 +69,46 @@ impl States {
     pub fn call(&mut self, draws: &mut Draws, met: &mut Met) -> Result<(), String> {
         let place = draws.below(STATES);
         let kind = draws.kind(&mut self.beside[place].phase);
-        let made = if place % 2 == 0 { self.scheduler_call(place, kind, draws, met) } else { self.site_call(place, kind, draws, met) };
-        let Made { name, reply, said, asked } = made?;
+        let made = if place % 2 == 0 {
+            self.scheduler_call(place, kind, draws, met)
+        } else {
+            self.site_call(place, kind, draws, met)
+        };
+        let Made {
+            name,
+            reply,
+            said,
+            asked,
+        } = made?;
         met.said(name, said, asked);
         if let Some(reply) = reply {
             if reply != said.reply() {
-                return Err(format!("{name} says {reply:?}, and must say {:?}", said.reply()));
+                return Err(format!(
+                    "{name} says {reply:?}, and must say {:?}",
+                    said.reply()
+                ));
             }
         }
-        self.image_stands(place, said).map_err(|fault| format!("{name}, {said:?}: {fault}"))
+        self.image_stands(place, said)
+            .map_err(|fault| format!("{name}, {said:?}: {fault}"))
     }
 
-    fn scheduler_call(&mut self, place: usize, kind: Kind, draws: &mut Draws, met: &mut Met) -> Result<Made, String> {
-        let state = self.images[start(place)..].as_mut_ptr().cast::<raw::hb_scheduler>();
-        let Beside { witness, slots, phase, .. } = &mut self.beside[place];
+    fn scheduler_call(
+        &mut self,
+        place: usize,
+        kind: Kind,
+        draws: &mut Draws,
+        met: &mut Met,
+    ) -> Result<Made, String> {
+        let state = self.images[start(place)..]
+            .as_mut_ptr()
+            .cast::<raw::hb_scheduler>();
+        let Beside {
+            witness,
+            slots,
+            phase,
+            ..
+        } = &mut self.beside[place];
         let mut asked = 0;
         // Safety, here and below: the state lies whole in the array, and every buffer has the length that is passed.
         let (name, reply, said) = match kind {
@@ -94,35 +120,72 @@ impl States {
             Kind::Open => {
                 let (flow, weight) = (draws.flow(phase), draws.weight());
                 let reply = unsafe { raw::hb_open(state, flow, weight) };
-                ("hb_open", Some(reply), slots.opened(witness.open(flow as i64, weight as i64)))
+                (
+                    "hb_open",
+                    Some(reply),
+                    slots.opened(witness.open(flow as i64, weight as i64)),
+                )
             }
             Kind::Offer => {
                 let (flow, size) = (draws.flow(phase), draws.size());
                 let reply = unsafe { raw::hb_offer(state, flow, size) };
-                ("hb_offer", Some(reply), slots.offered(flow as i64, witness.offer(flow as i64, size as i64)))
+                (
+                    "hb_offer",
+                    Some(reply),
+                    slots.offered(flow as i64, witness.offer(flow as i64, size as i64)),
+                )
             }
             Kind::Depart => {
                 let reply = unsafe { raw::hb_depart(state) };
-                ("hb_depart", Some(reply), slots.departed(Ok(witness.depart())))
+                (
+                    "hb_depart",
+                    Some(reply),
+                    slots.departed(Ok(witness.depart())),
+                )
             }
             Kind::Burst => {
                 asked = draws.asked();
                 let length = draws.list_length(asked, LIST);
-                let list = self.list.of(length);
+                let list = &mut self.list;
                 list.fill(length, draws);
-                let reply = unsafe { raw::hb_burst(state, asked, pointer(list, length, "list", draws, met), length) };
+                let reply = unsafe {
+                    raw::hb_burst(
+                        state,
+                        asked,
+                        pointer(list, length, "list", draws, met),
+                        length,
+                    )
+                };
                 let told = witness.burst(asked, list.twin(length));
                 let said = slots.counted(list.twin(length), told);
                 same("the list", list)?;
                 ("hb_burst", Some(reply), said)
             }
         };
-        Ok(Made { name, reply, said, asked })
+        Ok(Made {
+            name,
+            reply,
+            said,
+            asked,
+        })
     }
 
-    fn site_call(&mut self, place: usize, kind: Kind, draws: &mut Draws, met: &mut Met) -> Result<Made, String> {
-        let state = self.images[start(place)..].as_mut_ptr().cast::<raw::hb_site>();
-        let Beside { witness, slots, phase, store: own } = &mut self.beside[place];
+    fn site_call(
+        &mut self,
+        place: usize,
+        kind: Kind,
+        draws: &mut Draws,
+        met: &mut Met,
+    ) -> Result<Made, String> {
+        let state = self.images[start(place)..]
+            .as_mut_ptr()
+            .cast::<raw::hb_site>();
+        let Beside {
+            witness,
+            slots,
+            phase,
+            store: own,
+        } = &mut self.beside[place];
         let own = own.as_mut().expect("a site has a store");
         let (name, reply, said) = match kind {
             Kind::Reset => {
@@ -133,18 +196,33 @@ impl States {
             Kind::Open => {
                 let (flow, weight) = (draws.flow(phase), draws.weight());
                 let reply = unsafe { raw::hb_site_open(state, flow, weight) };
-                ("hb_site_open", Some(reply), slots.opened(witness.open(flow as i64, weight as i64)))
+                (
+                    "hb_site_open",
+                    Some(reply),
+                    slots.opened(witness.open(flow as i64, weight as i64)),
+                )
             }
             Kind::Offer => {
-                let (flow, length, store_length) = (draws.flow(phase), draws.length(), draws.store_length());
+                let (flow, length, store_length) =
+                    (draws.flow(phase), draws.length(), draws.store_length());
                 let packet = self.packet.of(length);
                 packet.fill(length.min(512), draws);
                 let from = pointer(packet, length, "packet", draws, met);
                 let into = pointer(own, store_length, "store", draws, met);
-                let reply = unsafe { raw::hb_site_offer(state, flow, from, length, into, store_length) };
-                let told = store::offer(witness, own.twin(store_length), flow as i64, packet.twin(length));
+                let reply =
+                    unsafe { raw::hb_site_offer(state, flow, from, length, into, store_length) };
+                let told = store::offer(
+                    witness,
+                    own.twin(store_length),
+                    flow as i64,
+                    packet.twin(length),
+                );
                 same("the packet", packet)?;
-                ("hb_site_offer", Some(reply), slots.offered(flow as i64, told))
+                (
+                    "hb_site_offer",
+                    Some(reply),
+                    slots.offered(flow as i64, told),
+                )
             }
             Kind::Depart | Kind::Burst => {
                 let (store_length, length) = (draws.store_length(), draws.outgoing_length());
@@ -159,7 +237,12 @@ impl States {
             }
         };
         same("the store", own)?;
-        Ok(Made { name, reply, said, asked: 0 })
+        Ok(Made {
+            name,
+            reply,
+            said,
+            asked: 0,
+        })
     }
 
     /// Only the call's own state may have changed, and not by a refusal or idle; a reset state is all zeros.
@@ -171,7 +254,10 @@ impl States {
         if said == Said::Reset && self.images[own.clone()].iter().any(|&byte| byte != 0) {
             return Err(format!("state {place} is not all zeros"));
         }
-        for near in [own.start - STATE_SIZE..own.start, own.end..own.end + STATE_SIZE] {
+        for near in [
+            own.start - STATE_SIZE..own.start,
+            own.end..own.end + STATE_SIZE,
+        ] {
             if self.images[near.clone()] != self.before[near] {
                 return Err(format!("a neighbour of state {place} changed"));
             }
@@ -186,7 +272,10 @@ impl States {
             return Err("a state far off changed".to_string());
         }
         for beside in &self.beside {
-            beside.store.as_ref().map_or(Ok(()), |own| same("a store far off", own))?;
+            beside
+                .store
+                .as_ref()
+                .map_or(Ok(()), |own| same("a store far off", own))?;
         }
         Ok(())
     }
@@ -197,7 +286,13 @@ fn start(place: usize) -> usize {
 }
 
 /// For the archive; of length 0 a null pointer every other time.
-fn pointer(twin: &mut Twin, length: usize, buffer: &str, draws: &mut Draws, met: &mut Met) -> *mut u8 {
+fn pointer(
+    twin: &mut Twin,
+    length: usize,
+    buffer: &str,
+    draws: &mut Draws,
+    met: &mut Met,
+) -> *mut u8 {
     let null = length == 0 && draws.one_in(2);
     if null {
         met.null(buffer);

@@ -15,8 +15,14 @@ pub struct Twin {
 impl Twin {
     /// Room for so many bytes at most, all drawn.
     pub fn new(room: usize, draws: &mut Draws) -> Self {
-        let bytes: Vec<u8> = (0..GUARD + 8 + room + GUARD).map(|_| draws.byte()).collect();
-        Twin { lent: bytes.clone(), twin: bytes, start: GUARD + draws.below(8) }
+        let bytes: Vec<u8> = (0..GUARD + 8 + room + GUARD)
+            .map(|_| draws.byte())
+            .collect();
+        Twin {
+            lent: bytes.clone(),
+            twin: bytes,
+            start: GUARD + draws.below(8),
+        }
     }
 
     /// For the archive: the first bytes of the lent part. Of none it may be a null pointer.
@@ -63,7 +69,10 @@ const USUAL: usize = 320;
 
 impl Twins {
     pub fn new(room: usize, draws: &mut Draws) -> Self {
-        Twins { usual: Twin::new(USUAL, draws), large: Twin::new(room, draws) }
+        Twins {
+            usual: Twin::new(USUAL, draws),
+            large: Twin::new(room, draws),
+        }
     }
 
     pub fn of(&mut self, length: usize) -> &mut Twin {

@@ -12,8 +12,8 @@ use std::convert::TryInto;
 
 const PAIRS: usize = 4;
 
-/// The most that a list has room for.
-const LIST: usize = 310;
+/// A list has so many bytes at most.
+const LIST: usize = 12;
 
 struct Driven<S> {
     state: S,
@@ -33,13 +33,20 @@ pub struct Wrapped {
 
 impl<S> Driven<S> {
     fn new(state: S, draws: &mut Draws) -> Self {
-        Driven { state, witness: Scheduler::new(), slots: Slots::default(), phase: draws.phase() }
+        Driven {
+            state,
+            witness: Scheduler::new(),
+            slots: Slots::default(),
+            phase: draws.phase(),
+        }
     }
 }
 
 impl Wrapped {
     pub fn new(draws: &mut Draws) -> Self {
-        let schedulers = (0..PAIRS).map(|_| Driven::new(houghbreeze::Scheduler::new(), draws)).collect();
+        let schedulers = (0..PAIRS)
+            .map(|_| Driven::new(houghbreeze::Scheduler::new(), draws))
+            .collect();
         let sites = (0..PAIRS).map(|_| {
             let store: &'static mut [u8; STORE] = Box::leak(Box::new([0; STORE]));
             (Driven::new(Site::new(store), draws), vec![0; STORE])
@@ -55,20 +62,31 @@ impl Wrapped {
 
     pub fn call(&mut self, draws: &mut Draws, met: &mut Met) -> Result<(), String> {
         let place = draws.below(PAIRS);
-        let (found, said, asked) = if draws.one_in(2) { self.scheduler_call(place, draws) } else { self.site_call(place, draws) };
+        let (found, said, asked) = if draws.one_in(2) {
+            self.scheduler_call(place, draws)
+        } else {
+            self.site_call(place, draws)
+        };
         met.said("wrapper", said, asked);
         if found != said {
             return Err(format!("the wrapper says {found:?}, and must say {said:?}"));
         }
         if !(self.list.agrees() && self.outgoing.agrees()) {
-            return Err(format!("the wrapper, {said:?}: a lent buffer differs, or a byte around it"));
+            return Err(format!(
+                "the wrapper, {said:?}: a lent buffer differs, or a byte around it"
+            ));
         }
         Ok(())
     }
 
     /// What the wrapper says, what it must say, and how many departures a burst asked for.
     fn scheduler_call(&mut self, place: usize, draws: &mut Draws) -> (Said, Said, usize) {
-        let Driven { state, witness, slots, phase } = &mut self.schedulers[place];
+        let Driven {
+            state,
+            witness,
+            slots,
+            phase,
+        } = &mut self.schedulers[place];
         match draws.kind(phase) {
             Kind::Reset => {
                 state.reset();
@@ -77,15 +95,27 @@ impl Wrapped {
             }
             Kind::Open => {
                 let (flow, weight) = (draws.flow(phase), draws.weight());
-                (opened(state.open(flow, weight)), slots.opened(witness.open(flow as i64, weight as i64)), 0)
+                (
+                    opened(state.open(flow, weight)),
+                    slots.opened(witness.open(flow as i64, weight as i64)),
+                    0,
+                )
             }
             Kind::Offer => {
                 let (flow, size) = (draws.flow(phase), draws.size());
-                (offered(state.offer(flow, size)), slots.offered(flow as i64, witness.offer(flow as i64, size as i64)), 0)
+                (
+                    offered(state.offer(flow, size)),
+                    slots.offered(flow as i64, witness.offer(flow as i64, size as i64)),
+                    0,
+                )
             }
-            Kind::Depart => (departed(state.depart()), slots.departed(Ok(witness.depart())), 0),
+            Kind::Depart => (
+                departed(state.depart()),
+                slots.departed(Ok(witness.depart())),
+                0,
+            ),
             Kind::Burst => {
-                let length = draws.below(12).min(LIST);
+                let length = draws.below(LIST);
                 let found = Said::Count(state.burst(self.list.lent(length)));
                 let told = witness.burst(length, self.list.twin(length));
                 (found, slots.counted(self.list.twin(length), told), length)
@@ -94,7 +124,15 @@ impl Wrapped {
     }
 
     fn site_call(&mut self, place: usize, draws: &mut Draws) -> (Said, Said, usize) {
-        let (Driven { state, witness, slots, phase }, twin) = &mut self.sites[place];
+        let (
+            Driven {
+                state,
+                witness,
+                slots,
+                phase,
+            },
+            twin,
+        ) = &mut self.sites[place];
         match draws.kind(phase) {
             Kind::Reset => {
                 state.reset();
@@ -103,19 +141,42 @@ impl Wrapped {
             }
             Kind::Open => {
                 let (flow, weight) = (draws.flow(phase), draws.weight());
-                (opened(state.open(flow, weight)), slots.opened(witness.open(flow as i64, weight as i64)), 0)
+                (
+                    opened(state.open(flow, weight)),
+                    slots.opened(witness.open(flow as i64, weight as i64)),
+                    0,
+                )
             }
             Kind::Offer => {
                 let (flow, length) = (draws.flow(phase), draws.length());
                 let packet = self.packet.of(length);
                 packet.fill(length.min(512), draws);
                 let found = offered(state.offer(flow, packet.lent(length)));
-                (found, slots.offered(flow as i64, store::offer(witness, twin, flow as i64, packet.twin(length))), 0)
+                (
+                    found,
+                    slots.offered(
+                        flow as i64,
+                        store::offer(witness, twin, flow as i64, packet.twin(length)),
+                    ),
+                    0,
+                )
             }
             Kind::Depart | Kind::Burst => {
-                let outgoing = self.outgoing.lent(OUTGOING_MIN).try_into().expect("the outgoing buffer has its length");
+                let outgoing = self
+                    .outgoing
+                    .lent(OUTGOING_MIN)
+                    .try_into()
+                    .expect("the outgoing buffer has its length");
                 let found = departed(state.depart(outgoing));
-                (found, slots.departed(store::depart(witness, twin, self.outgoing.twin(OUTGOING_MIN))), 0)
+                (
+                    found,
+                    slots.departed(store::depart(
+                        witness,
+                        twin,
+                        self.outgoing.twin(OUTGOING_MIN),
+                    )),
+                    0,
+                )
             }
         }
     }
@@ -126,15 +187,32 @@ fn opened(reply: Result<(), Refusal>) -> Said {
 }
 
 fn offered(reply: Result<u8, Refusal>) -> Said {
-    reply.map_or_else(refused, |slot| Said::Accepted { slot: i64::from(slot) })
+    reply.map_or_else(refused, |slot| Said::Accepted {
+        slot: i64::from(slot),
+    })
 }
 
 fn departed(reply: Next) -> Said {
     match reply {
         Next::Idle => Said::Idle,
-        Next::Departure { flow, size, mark, allowance, slot } => {
-            let (flow, size, mark, allowance) = (flow.into(), size.into(), mark.into(), allowance.into());
-            Said::Left { departure: Departure { flow, size, mark, allowance }, slot: slot.into() }
+        Next::Departure {
+            flow,
+            size,
+            mark,
+            allowance,
+            slot,
+        } => {
+            let (flow, size, mark, allowance) =
+                (flow.into(), size.into(), mark.into(), allowance.into());
+            Said::Left {
+                departure: Departure {
+                    flow,
+                    size,
+                    mark,
+                    allowance,
+                },
+                slot: slot.into(),
+            }
         }
     }
 }

@@ -34,7 +34,13 @@ pub enum Refusal {
 /// What a departure call says.
 #[derive(Clone, Copy, Debug, PartialEq, Eq)]
 pub enum Next {
-    Departure { flow: u8, size: u16, mark: u16, allowance: u16, slot: u8 },
+    Departure {
+        flow: u8,
+        size: u16,
+        mark: u16,
+        allowance: u16,
+        slot: u8,
+    },
     Idle,
 }
 
@@ -75,7 +81,8 @@ impl Scheduler {
 
     /// As many departures as the list has room for, or fewer if none waits any more; gives their number.
     pub fn burst(&mut self, list: &mut [u8]) -> usize {
-        let reply = unsafe { raw::hb_burst(&mut self.0, list.len(), list.as_mut_ptr(), list.len()) };
+        let reply =
+            unsafe { raw::hb_burst(&mut self.0, list.len(), list.as_mut_ptr(), list.len()) };
         usize::from(reply.count)
     }
 }
@@ -83,7 +90,10 @@ impl Scheduler {
 impl<'a> Site<'a> {
     /// No flow open, nothing waits. What lies in the store does not matter.
     pub fn new(store: &'a mut [u8; STORE_SIZE]) -> Self {
-        Site { state: raw::hb_site::NEW, store }
+        Site {
+            state: raw::hb_site::NEW,
+            store,
+        }
     }
 
     pub fn reset(&mut self) {
@@ -97,13 +107,30 @@ impl<'a> Site<'a> {
     /// Gives the packet's slot.
     pub fn offer(&mut self, flow: usize, packet: &[u8]) -> Result<u8, Refusal> {
         let (state, store) = (&mut self.state, self.store.as_mut_ptr());
-        accepted(unsafe { raw::hb_site_offer(state, flow, packet.as_ptr(), packet.len(), store, STORE_SIZE) })
+        accepted(unsafe {
+            raw::hb_site_offer(
+                state,
+                flow,
+                packet.as_ptr(),
+                packet.len(),
+                store,
+                STORE_SIZE,
+            )
+        })
     }
 
     /// The packet's bytes go to the start of `outgoing`.
     pub fn depart(&mut self, outgoing: &mut [u8; OUTGOING_MIN]) -> Next {
         let (state, store) = (&mut self.state, self.store.as_ptr());
-        next(unsafe { raw::hb_site_depart(state, store, STORE_SIZE, outgoing.as_mut_ptr(), OUTGOING_MIN) })
+        next(unsafe {
+            raw::hb_site_depart(
+                state,
+                store,
+                STORE_SIZE,
+                outgoing.as_mut_ptr(),
+                OUTGOING_MIN,
+            )
+        })
     }
 }
 
@@ -126,9 +153,23 @@ fn accepted(reply: raw::hb_reply) -> Result<u8, Refusal> {
 }
 
 fn next(reply: raw::hb_reply) -> Next {
-    let raw::hb_reply { kind, flow, size, mark, allowance, slot, .. } = reply;
+    let raw::hb_reply {
+        kind,
+        flow,
+        size,
+        mark,
+        allowance,
+        slot,
+        ..
+    } = reply;
     if kind == raw::HB_DEPARTURE {
-        Next::Departure { flow: flow as u8, size, mark, allowance, slot: slot as u8 }
+        Next::Departure {
+            flow: flow as u8,
+            size,
+            mark,
+            allowance,
+            slot: slot as u8,
+        }
     } else {
         Next::Idle
     }

@@ -36,11 +36,15 @@ pub struct hb_site {
 }
 
 impl hb_scheduler {
-    pub const NEW: Self = hb_scheduler { opaque: [0; STATE_SIZE] };
+    pub const NEW: Self = hb_scheduler {
+        opaque: [0; STATE_SIZE],
+    };
 }
 
 impl hb_site {
-    pub const NEW: Self = hb_site { opaque: [0; STATE_SIZE] };
+    pub const NEW: Self = hb_site {
+        opaque: [0; STATE_SIZE],
+    };
 }
 
 #[link(name = "houghbreeze", kind = "static")]

@@ -3,7 +3,13 @@
 use super::*;
 
 fn departure(flow: u8, size: u16, mark: u16, allowance: u16, slot: u8) -> Next {
-    Next::Departure { flow, size, mark, allowance, slot }
+    Next::Departure {
+        flow,
+        size,
+        mark,
+        allowance,
+        slot,
+    }
 }
 
 #[test]
