@@ -12,6 +12,8 @@ pub enum Kind {
     Offer,
     Depart,
     Burst,
+    /// A burst of more than can wait, or hardly.
+    Drain,
 }
 
 /// Of one state for a while: many flows or few, many offers or few.
@@ -20,7 +22,18 @@ pub struct Phase {
     width: usize,
     opens: usize,
     load: usize,
+    calls_left: usize,
+    /// Nothing but opens and offers until every queue is full, then a burst.
+    flood: bool,
 }
+
+const FLOOD: Phase = Phase {
+    width: 32,
+    opens: 64,
+    load: 192,
+    calls_left: 1536,
+    flood: true,
+};
 
 impl Draws {
     pub fn new(seed: u64) -> Self {
@@ -40,18 +53,28 @@ impl Draws {
     }
 
     pub fn phase(&mut self) -> Phase {
+        if self.one_in(20) {
+            return FLOOD;
+        }
         Phase {
             width: 1 + self.below(34),
             opens: 1 + self.below(48),
             load: 64 + self.below(128),
+            calls_left: self.below(512),
+            flood: false,
         }
     }
 
     pub fn kind(&mut self, phase: &mut Phase) -> Kind {
-        if self.one_in(256) {
+        if phase.calls_left == 0 {
+            let full = phase.flood;
             *phase = self.phase();
+            if full {
+                return Kind::Drain;
+            }
         }
-        if self.one_in(1024) {
+        phase.calls_left = phase.calls_left.saturating_sub(1);
+        if self.one_in(2048) {
             return Kind::Reset;
         }
         match self.below(256) {
@@ -87,11 +110,11 @@ impl Draws {
         }
     }
 
-    pub fn asked(&mut self) -> usize {
-        let near = if self.one_in(8) {
-            self.below(300)
-        } else {
-            self.below(12)
+    pub fn asked(&mut self, kind: Kind) -> usize {
+        let near = match kind {
+            Kind::Drain => 255 + self.below(8),
+            _ if self.one_in(8) => self.below(300),
+            _ => self.below(12),
         };
         self.far(near)
     }

@@ -7,6 +7,9 @@ use std::fmt;
 #[derive(Default)]
 pub struct Met(BTreeMap<(&'static str, String), u64>);
 
+/// As many departures as packets can wait.
+const FULL: usize = 256;
+
 /// What each call must have said at least once.
 const MUST: [(&str, &[&str]); 11] = [
     ("hb_reset", &["done"]),
@@ -16,7 +19,7 @@ const MUST: [(&str, &[&str]); 11] = [
         &["done", "refused 1", "refused 4", "refused 5", "refused 6"],
     ),
     ("hb_depart", &["departure", "idle"]),
-    ("hb_burst", &["whole", "early", "none", "refused 9"]),
+    ("hb_burst", &["whole", "early", "none", "full", "refused 9"]),
     ("hb_site_reset", &["done"]),
     (
         "hb_site_open",
@@ -63,6 +66,7 @@ impl Met {
                 Said::Left { .. } => "departure".to_string(),
                 Said::Idle => "idle".to_string(),
                 Said::Count(_) if asked == 0 => "none".to_string(),
+                Said::Count(FULL) => "full".to_string(),
                 Said::Count(count) if count == asked => "whole".to_string(),
                 Said::Count(_) => "early".to_string(),
                 Said::Refused(number) => format!("refused {number}"),
@@ -106,13 +110,14 @@ impl fmt::Display for Met {
             .collect();
         write!(
             out,
-            "{} departures, {} idle, refusals 1 to 9: {}, bursts whole {}, early {}, of none {}; null pointers {}; by the wrapper {}",
+            "{} departures, {} idle, refusals 1 to 9: {}, bursts whole {}, early {}, of none {}, of all 256 {}; null pointers {}; by the wrapper {}",
             self.sum("", "departure"),
             self.sum("", "idle"),
             refusals.join(" "),
             self.sum("", "whole"),
             self.sum("", "early"),
             self.sum("", "none"),
+            self.sum("", "full"),
             self.sum("null", ""),
             self.sum("wrapper", ""),
         )

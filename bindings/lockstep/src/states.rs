@@ -143,8 +143,8 @@ impl States {
                     slots.departed(Ok(witness.depart())),
                 )
             }
-            Kind::Burst => {
-                asked = draws.asked();
+            Kind::Burst | Kind::Drain => {
+                asked = draws.asked(kind);
                 let length = draws.list_length(asked, LIST);
                 let list = &mut self.list;
                 list.fill(length, draws);
@@ -224,7 +224,7 @@ impl States {
                     slots.offered(flow as i64, told),
                 )
             }
-            Kind::Depart | Kind::Burst => {
+            Kind::Depart | Kind::Burst | Kind::Drain => {
                 let (store_length, length) = (draws.store_length(), draws.outgoing_length());
                 let outgoing = self.outgoing.of(length);
                 outgoing.fill(length.min(512), draws);

@@ -114,7 +114,7 @@ impl Wrapped {
                 slots.departed(Ok(witness.depart())),
                 0,
             ),
-            Kind::Burst => {
+            Kind::Burst | Kind::Drain => {
                 let length = draws.below(LIST);
                 let found = Said::Count(state.burst(self.list.lent(length)));
                 let told = witness.burst(length, self.list.twin(length));
@@ -161,7 +161,7 @@ impl Wrapped {
                     0,
                 )
             }
-            Kind::Depart | Kind::Burst => {
+            Kind::Depart | Kind::Burst | Kind::Drain => {
                 let outgoing = self
                     .outgoing
                     .lent(OUTGOING_MIN)
