@@ -14,11 +14,11 @@ static hb_reply answered(enum refusal refusal)
     return (hb_reply){.kind = refusal == ACCEPTED ? HB_DONE : HB_REFUSED, .refusal = (uint16_t)refusal};
 }
 
-static hb_reply placed(enum refusal refusal, const struct scheduler *s, size_t flow)
+/* The slot of a refused packet is 0. */
+static hb_reply placed(enum refusal refusal, unsigned slot)
 {
     hb_reply reply = answered(refusal);
-    if (refusal == ACCEPTED)
-        reply.slot = (uint16_t)last_slot(s, flow);
+    reply.slot = (uint16_t)slot;
     return reply;
 }
 
@@ -50,8 +50,9 @@ hb_reply hb_open(hb_scheduler *s, size_t flow, size_t weight)
 
 hb_reply hb_offer(hb_scheduler *s, size_t flow, size_t size)
 {
-    struct scheduler *scheduler = (struct scheduler *)s;
-    return placed(offer(scheduler, flow, size), scheduler, flow);
+    unsigned slot = 0;
+    enum refusal refusal = offer((struct scheduler *)s, flow, size, &slot);
+    return placed(refusal, slot);
 }
 
 hb_reply hb_depart(hb_scheduler *s)
@@ -84,8 +85,9 @@ hb_reply hb_site_open(hb_site *s, size_t flow, size_t weight)
 
 hb_reply hb_site_offer(hb_site *s, size_t flow, const uint8_t *packet, size_t packet_length, uint8_t *store, size_t store_length)
 {
-    struct scheduler *scheduler = (struct scheduler *)s;
-    return placed(store_offer(scheduler, store, store_length, flow, packet, packet_length), scheduler, flow);
+    unsigned slot = 0;
+    enum refusal refusal = store_offer((struct scheduler *)s, store, store_length, flow, packet, packet_length, &slot);
+    return placed(refusal, slot);
 }
 
 hb_reply hb_site_depart(hb_site *s, const uint8_t *store, size_t store_length, uint8_t *outgoing, size_t outgoing_length)

@@ -99,7 +99,7 @@ static void send(struct replay *r, unsigned count)
 static bool run_line(struct replay *r, const char **at, const char *end, unsigned line)
 {
     enum refusal refusal = ACCEPTED;
-    unsigned first, second;
+    unsigned first, second, slot;
     if (take_text(at, end, "flow=")) {
         if (!take_number(at, end, &first) || !take_text(at, end, " weight=") ||
             !take_number(at, end, &second) || !take_text(at, end, "\n"))
@@ -109,7 +109,7 @@ static bool run_line(struct replay *r, const char **at, const char *end, unsigne
         if (!take_number(at, end, &first) || !take_text(at, end, " size=") ||
             !take_number(at, end, &second) || !take_text(at, end, "\n"))
             return false;
-        refusal = offer(&r->scheduler, first, second);
+        refusal = offer(&r->scheduler, first, second, &slot);
     } else {
         if (!take_text(at, end, "send=") || !take_number(at, end, &first) ||
             !take_text(at, end, "\n"))
@@ -178,15 +178,16 @@ static void open_flows(struct scheduler *s, unsigned flows)
 /* One offer and one departure, over and over. */
 static void pairs(unsigned flows, uint64_t n)
 {
+    unsigned slot;
     struct scheduler s;
     struct departure d;
     open_flows(&s, flows);
     for (unsigned f = 0; f < flows; f++) {
-        offer(&s, f, mixed_size(f));
-        offer(&s, f, mixed_size(f));
+        offer(&s, f, mixed_size(f), &slot);
+        offer(&s, f, mixed_size(f), &slot);
     }
     for (uint64_t i = 0; i < n; i++) {
-        fold(offer(&s, (unsigned)(i % flows), mixed_size(i)));
+        fold(offer(&s, i % flows, mixed_size(i), &slot));
         if (depart(&s, &d))
             fold_departure(&d);
         else
@@ -197,13 +198,14 @@ static void pairs(unsigned flows, uint64_t n)
 /* Fills every queue, then sends 100 packets in one burst. */
 static void bursts(uint64_t n)
 {
+    unsigned slot;
     struct scheduler s;
     uint8_t list[100] = {0};
     uint64_t offers = 0;
     open_flows(&s, FLOWS);
     for (uint64_t i = 0; i < n; i++) {
         for (unsigned f = 0; f < FLOWS; f++)
-            while (offer(&s, f, mixed_size(offers++)) == ACCEPTED)
+            while (offer(&s, f, mixed_size(offers++), &slot) == ACCEPTED)
                 ;
         size_t made = 0;
         burst(&s, sizeof list, list, sizeof list, &made);
@@ -216,11 +218,12 @@ static void bursts(uint64_t n)
 /* A burst of 100 from one full state, over and over: works on a copy, so that the state is kept. */
 static void again(uint64_t n)
 {
+    unsigned slot;
     struct scheduler full;
     uint8_t list[100] = {0};
     open_flows(&full, FLOWS);
     for (unsigned k = 0; k < FLOWS * QUEUE; k++)
-        offer(&full, k / QUEUE, mixed_size(k));
+        offer(&full, k / QUEUE, mixed_size(k), &slot);
     for (uint64_t i = 0; i < n; i++) {
         struct scheduler s = full;
         size_t made = 0;
@@ -233,6 +236,7 @@ static void again(uint64_t n)
 /* One packet into the store and one out of it, over and over. */
 static void store_pairs(size_t length, uint64_t n)
 {
+    unsigned slot;
     static uint8_t store[STORE];
     struct scheduler s;
     struct departure d;
@@ -247,7 +251,7 @@ static void store_pairs(size_t length, uint64_t n)
     for (uint64_t i = 0; i < n; i++) {
         packet[0] = (uint8_t)i;
         packet[length - 1] = (uint8_t)(i + 1);
-        fold(store_offer(&s, store, sizeof store, (unsigned)(i % 4), packet, length));
+        fold(store_offer(&s, store, sizeof store, i % 4, packet, length, &slot));
         store_depart(&s, store, sizeof store, outgoing, sizeof outgoing, &d, &departed);
         if (departed) {
             fold_departure(&d);
@@ -262,11 +266,12 @@ static void store_pairs(size_t length, uint64_t n)
 /* A hundred departures from one full state, one call each, over and over: works on a copy, so that the state is kept. */
 static void departs(uint64_t n)
 {
+    unsigned slot;
     struct scheduler full;
     struct departure d;
     open_flows(&full, FLOWS);
     for (unsigned k = 0; k < FLOWS * QUEUE; k++)
-        offer(&full, k / QUEUE, MAX_SIZE);
+        offer(&full, k / QUEUE, MAX_SIZE, &slot);
     for (uint64_t i = 0; i < n; i++) {
         struct scheduler s = full;
         for (unsigned made = 0; made < 100; made++) {
@@ -281,6 +286,7 @@ static void departs(uint64_t n)
 /* The same with the packets' bytes. */
 static void store_departs(uint64_t n)
 {
+    unsigned slot;
     static uint8_t store[STORE];
     struct scheduler full;
     struct departure d;
@@ -290,7 +296,7 @@ static void store_departs(uint64_t n)
     open_flows(&full, FLOWS);
     for (unsigned k = 0; k < FLOWS * QUEUE; k++) {
         memset(packet, (int)k, sizeof packet);
-        store_offer(&full, store, sizeof store, k / QUEUE, packet, sizeof packet);
+        store_offer(&full, store, sizeof store, k / QUEUE, packet, sizeof packet, &slot);
     }
     for (uint64_t i = 0; i < n; i++) {
         struct scheduler s = full;

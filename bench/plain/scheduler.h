@@ -85,7 +85,8 @@ static void join_line(struct scheduler *s, size_t flow)
     s->line_length++;
 }
 
-static enum refusal offer(struct scheduler *s, size_t flow, size_t size)
+/* Sets *slot if accepted. */
+static enum refusal offer(struct scheduler *s, size_t flow, size_t size, unsigned *slot)
 {
     if (flow >= FLOWS)
         return BAD_FLOW;
@@ -99,16 +100,10 @@ static enum refusal offer(struct scheduler *s, size_t flow, size_t size)
     /* A flow out of line has surplus 0 already; the turn's flow has packets waiting. */
     if (f->waiting == 0)
         join_line(s, flow);
-    f->size[(f->head + f->waiting) % QUEUE] = (uint16_t)size;
+    *slot = (unsigned)(f->head + f->waiting) % QUEUE;
+    f->size[*slot] = (uint16_t)size;
     f->waiting++;
     return ACCEPTED;
-}
-
-/* The slot of the packet that joined the flow's queue last. */
-static unsigned last_slot(const struct scheduler *s, size_t flow)
-{
-    const struct flow *f = &s->flow[flow];
-    return (unsigned)(f->head + f->waiting - 1) % QUEUE;
 }
 
 static bool begin_turn(struct scheduler *s)
@@ -179,21 +174,21 @@ static enum refusal burst(struct scheduler *s, size_t asked, uint8_t *list, size
 
 /* ---- Store layer ---- */
 
-static size_t slot_start(size_t flow, size_t slot)
+static size_t slot_start(unsigned flow, unsigned slot)
 {
-    return 2048 * flow + 256 * slot;
+    return 2048u * flow + 256u * slot;
 }
 
-static enum refusal store_offer(struct scheduler *s, uint8_t *store, size_t store_length,
-                                size_t flow, const uint8_t *packet, size_t length)
+/* Sets *slot if accepted. */
+static enum refusal store_offer(struct scheduler *s, uint8_t *store, size_t store_length, size_t flow,
+                                const uint8_t *packet, size_t length, unsigned *slot)
 {
     if (store_length != STORE)
         return BAD_STORE;
-    enum refusal refusal = offer(s, flow, length);
-    if (refusal != ACCEPTED)
-        return refusal;
-    memcpy(store + slot_start(flow, last_slot(s, flow)), packet, length);
-    return ACCEPTED;
+    enum refusal refusal = offer(s, flow, length, slot);
+    if (refusal == ACCEPTED)
+        memcpy(store + slot_start((unsigned)flow, *slot), packet, length);
+    return refusal;
 }
 
 /* Sets *departed to false if idle. */
