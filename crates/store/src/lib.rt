@@ -7,7 +7,8 @@ use model::SIZE_LIMIT;
 use order::State;
 
 mod bytes;
-mod slots;
+pub mod lengths;
+pub mod slots;
 
 // The store is exactly 65,536 bytes.
 pub const STORE_LENGTH: usize = 65536;

@@ -1,0 +1,110 @@
+// The calls for firmware, as include/houghbreeze.h declares them. An image is lent and changed in place; a reply is handed back by value. The calls on
+// bytes are the calls on sizes, with the packet's bytes moved beside them.
+ghost use Rattle.houghbreeze.specs.Image.{SoundImage};
+ghost use Rattle.houghbreeze.specs.Promised.{ResetGives, OpenGives, OfferGives, DepartGives, BurstGives, SiteResetGives, SiteOpenGives, SiteOfferGives, SiteDepartGives};
+use crate::image::IMAGE;
+use store::lengths;
+use store::slots;
+
+mod image;
+mod replies;
+mod sizes;
+
+// What C reads as a reply.
+#[repr(C)]
+pub struct HbReply {
+    pub kind: u16,
+    pub refusal: u16,
+    pub flow: u16,
+    pub size: u16,
+    pub mark: u16,
+    pub allowance: u16,
+    pub count: u16,
+    pub slot: u16,
+    pub later: [u16; 8],
+}
+
+#[no_mangle]
+pub extern "C" fn hb_reset(s: &mut [u8; IMAGE])
+    ensures { λ _. ⌜ ResetGives (now (s .exit)) ⌝ }
+{
+    image::clear(s);
+}
+
+#[no_mangle]
+pub extern "C" fn hb_open(s: &mut [u8; IMAGE], flow: usize, weight: usize) -> HbReply
+    requires { ⌜ SoundImage (now s) ⌝ }
+    ensures { λ r. ⌜ OpenGives (now (s .entry)) flow weight (now (s .exit)) r ⌝ }
+{
+    sizes::open(s, flow, weight)
+}
+
+#[no_mangle]
+pub extern "C" fn hb_offer(s: &mut [u8; IMAGE], flow: usize, size: usize) -> HbReply
+    requires { ⌜ SoundImage (now s) ⌝ }
+    ensures { λ r. ⌜ OfferGives (now (s .entry)) flow size (now (s .exit)) r ⌝ }
+{
+    sizes::offer(s, flow, size)
+}
+
+#[no_mangle]
+pub extern "C" fn hb_depart(s: &mut [u8; IMAGE]) -> HbReply
+    requires { ⌜ SoundImage (now s) ⌝ }
+    ensures { λ r. ⌜ DepartGives (now (s .entry)) (now (s .exit)) r ⌝ }
+{
+    sizes::depart(s)
+}
+
+#[no_mangle]
+pub extern "C" fn hb_burst(s: &mut [u8; IMAGE], n: usize, list: &mut [u8]) -> HbReply
+    requires { ⌜ SoundImage (now s) ⌝ }
+    ensures { λ r. ⌜ BurstGives (now (s .entry)) n (now (list .entry)) (now (list .exit)) (now (s .exit)) r ⌝ }
+{
+    sizes::burst(s, n, list)
+}
+
+#[no_mangle]
+pub extern "C" fn hb_site_reset(s: &mut [u8; IMAGE])
+    ensures { λ _. ⌜ SiteResetGives (now (s .exit)) ⌝ }
+{
+    image::clear(s);
+}
+
+#[no_mangle]
+pub extern "C" fn hb_site_open(s: &mut [u8; IMAGE], flow: usize, weight: usize) -> HbReply
+    requires { ⌜ SoundImage (now s) ⌝ }
+    ensures { λ r. ⌜ SiteOpenGives (now (s .entry)) flow weight (now (s .exit)) r ⌝ }
+{
+    hb_open(s, flow, weight)
+}
+
+#[no_mangle]
+pub extern "C" fn hb_site_offer(s: &mut [u8; IMAGE], flow: usize, packet: &[u8], store: &mut [u8]) -> HbReply
+    requires { ⌜ SoundImage (now s) ⌝ }
+    ensures { λ r. ⌜ SiteOfferGives (now (s .entry)) flow (now (packet .entry)) (now (store .entry)) (now (store .exit)) (now (s .exit)) r ⌝ }
+{
+    let refusal = lengths::offer_refusal(store);
+    if refusal != 0 {
+        return replies::refused(refusal);
+    }
+    let r = hb_offer(s, flow, packet.len());
+    if r.kind == replies::DONE {
+        slots::write(store, flow, r.slot as usize, packet);
+    }
+    r
+}
+
+#[no_mangle]
+pub extern "C" fn hb_site_depart(s: &mut [u8; IMAGE], store: &[u8], out: &mut [u8]) -> HbReply
+    requires { ⌜ SoundImage (now s) ⌝ }
+    ensures { λ r. ⌜ SiteDepartGives (now (s .entry)) (now (store .entry)) (now (out .entry)) (now (out .exit)) (now (s .exit)) r ⌝ }
+{
+    let refusal = lengths::departure_refusal(store, out);
+    if refusal != 0 {
+        return replies::refused(refusal);
+    }
+    let r = hb_depart(s);
+    // An idle reply has size 0, and nothing is copied.
+    slots::read(store, r.flow as usize, r.slot as usize, r.size as usize, out);
+    r
+}
