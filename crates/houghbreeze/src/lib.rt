@@ -28,6 +28,7 @@ pub struct HbReply {
 pub extern "C" fn hb_reset(s: &mut [u8; IMAGE])
     ensures { λ _. ⌜ ResetGives (now (s .exit)) ⌝ }
 {
+    image::counted(*s);
     image::clear(s);
 }
 
@@ -67,6 +68,7 @@ pub extern "C" fn hb_burst(s: &mut [u8; IMAGE], n: usize, list: &mut [u8]) -> Hb
 pub extern "C" fn hb_site_reset(s: &mut [u8; IMAGE])
     ensures { λ _. ⌜ SiteResetGives (now (s .exit)) ⌝ }
 {
+    image::counted(*s);
     image::clear(s);
 }
 
@@ -79,7 +81,12 @@ pub extern "C" fn hb_site_open(s: &mut [u8; IMAGE], flow: usize, weight: usize) 
 }
 
 #[no_mangle]
-pub extern "C" fn hb_site_offer(s: &mut [u8; IMAGE], flow: usize, packet: &[u8], store: &mut [u8]) -> HbReply
+pub extern "C" fn hb_site_offer(
+    s: &mut [u8; IMAGE],
+    flow: usize,
+    packet: &[u8],
+    store: &mut [u8],
+) -> HbReply
     requires { ⌜ SoundImage (now s) ⌝ }
     ensures { λ r. ⌜ SiteOfferGives (now (s .entry)) flow (now (packet .entry)) (now (store .entry)) (now (store .exit)) (now (s .exit)) r ⌝ }
 {
@@ -105,6 +112,12 @@ pub extern "C" fn hb_site_depart(s: &mut [u8; IMAGE], store: &[u8], out: &mut [u
     }
     let r = hb_depart(s);
     // An idle reply has size 0, and nothing is copied.
-    slots::read(store, r.flow as usize, r.slot as usize, r.size as usize, out);
+    slots::read(
+        store,
+        r.flow as usize,
+        r.slot as usize,
+        r.size as usize,
+        out,
+    );
     r
 }

@@ -2,6 +2,9 @@
 use Prim.Native.Nat.{ℕ, zero, suc, _≤_, _<_}
 use mathlib.Core.Path.{_≡_, refl, sym, ap, ap₂, _∙_, subst}
 use mathlib.Core.List.{List, _++_}
+use mathlib.Core.Bool.{Bool, true, false, cond}
+use lib.Dec.{eqb, ltb}
+use borrow.Author.Tests.{eqb-true, eqb-false, ltb-false}
 use native.Mathlib.Omega.{arith}
 use lib.ListN.{length, getD, take, drop}
 use lib.Seq.{take-all, length-take-le}
@@ -30,7 +33,7 @@ use Rattle.store.specs.Calls.{storeOffer, storeOfferRefusal, storeDepart
 use Rattle.store.specs.Promised.{schedulerOf, SoundSite, siteOf, answeredAs, departedAs, NewGives, OpenGives, OfferGives, DepartGives}
 use Rattle.store.specs.declared.Site.{Site}
 use Rattle.store.proofs.SlotLaws.{held-nothing, written-nothing}
-use Rattle.store.proofs.CallLaws.{offer-wrong-store, offer-state, offer-answer, offer-refused, offer-writes, offer-number, depart-wrong-store, depart-short-out, depart-may, depart-refused, depart-made, sent-departure}
+use Rattle.store.proofs.CallLaws.{offer-wrong-store, offer-state, offer-answer, offer-refused, offer-writes, offer-number, depart-may, depart-refused, depart-made, sent-departure}
 
 -- A place is one of the store's.
 abbrev pub InStore : Place → Type 0
@@ -85,18 +88,31 @@ module _ (site : Site) (S : SoundSite site) where
   rules-of-site = S .rules
 
   module _ (f : ℕ) (packet store : List ℕ) where
-    pub wrong-store-offer : (length store ≡ storeLength → ⊥) → OfferGives site f packet store store (record { site = site; answer = AnswerRefused 8 })
-    unfolding answeredAs
-    wrong-store-offer d =
-        let eight : storeOfferRefusal s f packet store ≡ 8 = offer-wrong-store s f packet store d in
-        let kept = offer-refused s f packet store (λ e. absurd (omega arith)) in
-        record {
-          outcome =
-              ap (λ (k : Site). record { site = k; answer = AnswerRefused 8 }) site-form
-              ∙ sym (ap₂ answeredAs (kept .0) (offer-number s f packet store ∙ ap answerOf eight));
-          stored = sym (kept .1);
-          sound = S;
-        }
+    -- What the lengths lent refuse is refused; what they do not, leaves the store its length.
+    module _ (n : ℕ) (e : n ≡ cond (eqb (length store) storeLength) 0 8) where
+      pub offer-lengths-right : n ≡ 0 → length store ≡ storeLength
+      offer-lengths-right z = by (eqb (length store) storeLength) refl
+        where
+          by : (b : Bool) → eqb (length store) storeLength ≡ b → length store ≡ storeLength
+          by true t = eqb-true (length store) storeLength t
+          by false t = absurd (omega (arith, e ∙ ap (λ (k : Bool). cond {A = ℕ} k 0 8) t))
+
+      pub refused-offer : (n ≡ 0 → ⊥) → OfferGives site f packet store store (record { site = site; answer = AnswerRefused n })
+      unfolding answeredAs
+      refused-offer d = by (eqb (length store) storeLength) refl
+        where
+          by : (b : Bool) → eqb (length store) storeLength ≡ b → OfferGives site f packet store store (record { site = site; answer = AnswerRefused n })
+          by true t = absurd (d (e ∙ ap (λ (k : Bool). cond {A = ℕ} k 0 8) t))
+          by false t =
+              let eight : storeOfferRefusal s f packet store ≡ 8 = offer-wrong-store s f packet store (eqb-false (length store) storeLength t) in
+              let kept = offer-refused s f packet store (λ z. absurd (omega arith)) in
+              record {
+                outcome =
+                    ap₂ (λ (k : Site) (m : ℕ). record { site = k; answer = AnswerRefused m }) site-form (e ∙ ap (λ (k : Bool). cond {A = ℕ} k 0 8) t)
+                    ∙ sym (ap₂ answeredAs (kept .0) (offer-number s f packet store ∙ ap answerOf eight));
+                stored = sym (kept .1);
+                sound = S;
+              }
 
     -- The order layer's number decides, and with it where the packet lies.
     abbrev number : ℕ
@@ -154,21 +170,24 @@ module _ (site : Site) (S : SoundSite site) where
           }
 
   module _ (store out : List ℕ) where
-    refused-departure : (n : ℕ) → storeDepartRefusal store out ≡ suc n → DepartGives site store out out (record { site = site; reply = Refused (suc n) })
+    pub refused-departure : (n : ℕ) → n ≡ storeDepartRefusal store out → (n ≡ 0 → ⊥) → DepartGives site store out out (record { site = site; reply = Refused n })
     unfolding departedAs
-    refused-departure n e =
-        let kept = depart-refused s store out n e in
+    refused-departure zero e d = absurd (d refl)
+    refused-departure (suc n) e d =
+        let kept = depart-refused s store out n (sym e) in
         record {
           outcome = ap (λ (k : Site). record { site = k; reply = Refused (suc n) }) site-form ∙ sym (ap₂ departedAs (kept .0) (kept .2));
           sent = sym (kept .1);
           sound = S;
         }
 
-    pub wrong-store-departure : (length store ≡ storeLength → ⊥) → DepartGives site store out out (record { site = site; reply = Refused 8 })
-    wrong-store-departure d = refused-departure 7 (depart-wrong-store s store out d)
-
-    pub short-out-departure : length store ≡ storeLength → length out < outLimit → DepartGives site store out out (record { site = site; reply = Refused 7 })
-    short-out-departure e h = refused-departure 6 (depart-short-out s store out e h)
+    pub departure-lengths-right : (n : ℕ) → n ≡ storeDepartRefusal store out → n ≡ 0 → (length store ≡ storeLength) × (outLimit ≤ length out)
+    departure-lengths-right n e z = by (eqb (length store) storeLength) (ltb (length out) outLimit) refl refl
+      where
+        by : (a b : Bool) → eqb (length store) storeLength ≡ a → ltb (length out) outLimit ≡ b → (length store ≡ storeLength) × (outLimit ≤ length out)
+        by true true t u = absurd (omega (arith, e ∙ ap₂ (λ (j k : Bool). cond {A = ℕ} j (cond k 7 0) 8) t u))
+        by true false t u = (eqb-true (length store) storeLength t, ltb-false (length out) outLimit u)
+        by false b t u = absurd (omega (arith, e ∙ ap₂ (λ (j k : Bool). cond {A = ℕ} j (cond k 7 0) 8) t u))
 
     module _ (all : length store ≡ storeLength) (room : outLimit ≤ length out) (a : Departed) (g : order.DepartGives (site .order) a) where
       may : storeDepartRefusal store out ≡ 0

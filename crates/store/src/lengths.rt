@@ -26,9 +26,5 @@ pub fn departure_refusal(store: &[u8], out: &[u8]) -> u8
     if store.len() != STORE_LENGTH {
         return STORE_WRONG;
     }
-    if out.len() < SIZE_LIMIT {
-        OUT_SHORT
-    } else {
-        0
-    }
+    if out.len() < SIZE_LIMIT { OUT_SHORT } else { 0 }
 }

@@ -3,7 +3,6 @@
 ghost use Rattle.store.specs.Promised.{SoundSite, NewGives, OpenGives, OfferGives, DepartGives};
 use model::Answer;
 use model::Reply;
-use model::SIZE_LIMIT;
 use order::State;
 
 mod bytes;
@@ -68,10 +67,11 @@ impl Site {
         requires { ⌜ SoundSite self ⌝ }
         ensures { λ r. ⌜ OfferGives self f (now (packet .entry)) (now (store .entry)) (now (store .exit)) r ⌝ }
     {
-        if store.len() != STORE_LENGTH {
+        let refusal = lengths::offer_refusal(store);
+        if refusal != 0 {
             return SiteAnswered {
                 site: self,
-                answer: Answer::Refused(STORE_WRONG),
+                answer: Answer::Refused(refusal),
             };
         }
         let order = self.order;
@@ -92,16 +92,11 @@ impl Site {
         requires { ⌜ SoundSite self ⌝ }
         ensures { λ r. ⌜ DepartGives self (now (store .entry)) (now (out .entry)) (now (out .exit)) r ⌝ }
     {
-        if store.len() != STORE_LENGTH {
+        let refusal = lengths::departure_refusal(store, out);
+        if refusal != 0 {
             return SiteDeparted {
                 site: self,
-                reply: Reply::Refused(STORE_WRONG),
-            };
-        }
-        if out.len() < SIZE_LIMIT {
-            return SiteDeparted {
-                site: self,
-                reply: Reply::Refused(OUT_SHORT),
+                reply: Reply::Refused(refusal),
             };
         }
         let order = self.order;
