@@ -5,3 +5,4 @@ pub mod ImageLaws
 pub mod ResetLaws
 pub mod SizesLaws
 pub mod SiteLaws
+pub mod AsLayers

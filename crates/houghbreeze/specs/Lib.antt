@@ -3,3 +3,4 @@
 pub mod Image
 pub mod Replies
 pub mod Promised
+pub mod Runs
