@@ -1,6 +1,6 @@
 -- The theorems. A reader who believes the definitions that these statements reach (tools/believed lists them) need not look at any proof.
 use Prim.Native.Nat.{ℕ, _≤_, _%_}
-use mathlib.Core.Path.{_≡_, sym, ap, _∙_, subst}
+use mathlib.Core.Path.{_≡_, refl, sym, ap, _∙_, subst}
 use mathlib.Core.List.{List, [], _∷_, _++_}
 use lib.ListN.{length, drop}
 use Rattle.model.specs.Limits.{queueLimit}
@@ -47,7 +47,14 @@ use Rattle.store.proofs.Balances.{accepted-is-stored}
 use Rattle.site_account.proofs.Slots.{store-slots-in-turn}
 use Rattle.site_account.proofs.Theorems.{store-account, store-exact-bound, store-pair-bound}
 use Rattle.demands.specs.Demands.{Reached, CodeHistory, SeenOf, Demand1, Demand2, Demand3}
-use Rattle.demands.specs.Layers.{orderLayer, storeLayer}
+use Rattle.demands.specs.Layers.{orderLayer, storeLayer, firmwareOrderLayer, firmwareStoreLayer}
+use Rattle.demands.proofs.Faces.{Facing, grounds}
+use Rattle.houghbreeze.specs.Image.{imageOf, stateIn, SoundImage}
+use Rattle.houghbreeze.specs.Runs as Firmware
+use Rattle.houghbreeze.proofs.ImageLaws.{state-read, new-image}
+use Rattle.houghbreeze.proofs.AsLayers.{as-order, from-order, siteWith, imageWith, as-store, from-store}
+use Rattle.order.proofs.StateLaws.{new-gives}
+use Rattle.store.proofs.SiteLaws.{new-law}
 use Rattle.demands.proofs.Argument.{Grounds, beside, seen-same, unchanged, demand1, demand2, demand3}
 
 -- ---- why
@@ -84,6 +91,27 @@ store-grounds =
       exact-bound = store-exact-bound;
     }
 
+firmware-order-faces : Facing orderLayer order-grounds (List ℕ) Firmware.Does (firmwareOrderLayer .New) SoundImage stateIn imageOf
+firmware-order-faces =
+    record {
+      starts = λ i m new. (encode newScheduler, (new-gives, new .1), new .0 ∙ new-image);
+      as-layer = λ d. let p = as-order d in (p .given, p .does, p .image);
+      from-layer = λ {i} {c} {s} {e} d. from-order (record { given = s; does = d; image = refl });
+      read-again = state-read;
+      premise = λ i form sound. record { form = form; sound = sound };
+    }
+
+firmware-store-faces : Facing storeLayer store-grounds (WithStore (List ℕ)) Firmware.SiteDoes (firmwareStoreLayer .New) (λ i. SoundImage (i .keeper)) siteWith imageWith
+firmware-store-faces =
+    record {
+      starts = λ i m new.
+          (OnBytes.withStore (record { order = encode newScheduler }) (i .store), (new-law (encode newScheduler) new-gives, new .1, new .2), ap (λ (k : List ℕ). OnBytes.withStore k (i .store)) (new .0 ∙ new-image));
+      as-layer = λ d. let p = as-store d in (p .given, p .does, p .image);
+      from-layer = λ {i} {c} {s} {e} d. from-store (record { given = s; does = d; image = refl });
+      read-again = λ s sound. ap (λ (k : State). OnBytes.withStore (record { order = k }) (s .store)) (state-read (s .keeper .order) sound);
+      premise = λ i form sound. record { form = ap (λ (k : WithStore (List ℕ)). k .keeper) form; sound = sound };
+    }
+
 -- ---- the three demands
 
 pub order-keeps-demand-1 : Demand1 orderLayer
@@ -103,6 +131,25 @@ store-keeps-demand-2 = demand2 storeLayer store-grounds
 
 pub store-keeps-demand-3 : Demand3 storeLayer
 store-keeps-demand-3 = demand3 storeLayer store-grounds
+
+-- The same of the calls for firmware, on images.
+pub firmware-order-keeps-demand-1 : Demand1 firmwareOrderLayer
+firmware-order-keeps-demand-1 = demand1 firmwareOrderLayer (grounds orderLayer order-grounds _ _ _ _ _ _ firmware-order-faces)
+
+pub firmware-order-keeps-demand-2 : Demand2 firmwareOrderLayer
+firmware-order-keeps-demand-2 = demand2 firmwareOrderLayer (grounds orderLayer order-grounds _ _ _ _ _ _ firmware-order-faces)
+
+pub firmware-order-keeps-demand-3 : Demand3 firmwareOrderLayer
+firmware-order-keeps-demand-3 = demand3 firmwareOrderLayer (grounds orderLayer order-grounds _ _ _ _ _ _ firmware-order-faces)
+
+pub firmware-store-keeps-demand-1 : Demand1 firmwareStoreLayer
+firmware-store-keeps-demand-1 = demand1 firmwareStoreLayer (grounds storeLayer store-grounds _ _ _ _ _ _ firmware-store-faces)
+
+pub firmware-store-keeps-demand-2 : Demand2 firmwareStoreLayer
+firmware-store-keeps-demand-2 = demand2 firmwareStoreLayer (grounds storeLayer store-grounds _ _ _ _ _ _ firmware-store-faces)
+
+pub firmware-store-keeps-demand-3 : Demand3 firmwareStoreLayer
+firmware-store-keeps-demand-3 = demand3 firmwareStoreLayer (grounds storeLayer store-grounds _ _ _ _ _ _ firmware-store-faces)
 
 -- The old chooser's fault: after any calls no flow stands in line twice, nor in line while it has the turn.
 pub no-controller-in-line-twice : (calls : List Call) (f : ℕ) → count f (standing (chain orderCalls (begin newScheduler) calls .state .round)) ≤ 1
