@@ -1,7 +1,5 @@
 -- What is proved of the calls for firmware. The laws that function files apply: SizesLaws and SiteLaws (from what the layers' calls give to what a call
--- for firmware promises), ResetLaws. Below them: the image of a state and back from it (ImageLaws), the round's numbers as bytes (RoundBytes).
-pub mod RoundBytes
-pub mod ImageLaws
+-- for firmware promises), ResetLaws.
 pub mod ResetLaws
 pub mod SizesLaws
 pub mod SiteLaws

@@ -8,9 +8,9 @@ use Rattle.model.proofs.Keeps.{new-keeps}
 use Rattle.order.specs.Encoding.{encode}
 use Rattle.order.proofs.StateLaws.{new-gives}
 use Rattle.store.proofs.SiteLaws.{new-law}
-use Rattle.houghbreeze.specs.Image.{imageLength, SoundImage}
+use Rattle.image.specs.Image.{imageLength, SoundImage}
 use Rattle.houghbreeze.specs.Promised.{ResetGives, SiteResetGives}
-use Rattle.houghbreeze.proofs.ImageLaws.{image-sound, new-image}
+use Rattle.image.proofs.ImageLaws.{image-sound, new-image}
 
 pub reset-passes : {after : List ℕ} → after ≡ replicate imageLength 0 → ResetGives after
 reset-passes e =

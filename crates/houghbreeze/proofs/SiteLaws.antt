@@ -30,10 +30,10 @@ use Rattle.store.specs.Slots.{storeLength, outLimit, written, held}
 use Rattle.store.specs.Calls.{storeDepartRefusal}
 use Rattle.store.proofs.SiteLaws.{InStore, fetched, open-law, refused-offer, into-fits, stored-there, refused-departure, from-fits, sent-from-there}
 use Rattle.store.proofs.SlotLaws.{held-nothing, written-nothing}
-use Rattle.houghbreeze.specs.Image.{stateIn, SoundImage}
+use Rattle.image.specs.Image.{stateIn, SoundImage}
 use Rattle.houghbreeze.specs.Promised.{Gives, OpenGives, OfferGives, DepartGives, siteIn, SiteOpenGives, SiteOfferGives, SiteDepartGives}
-use Rattle.houghbreeze.specs.Replies.{reply, refusedKind, ofAnswer, ofReply}
-use Rattle.houghbreeze.specs.declared.HbReply.{HbReply}
+use Rattle.image.specs.Replies.{reply, refusedKind, ofAnswer, ofReply}
+use Rattle.image.specs.declared.HbReply.{HbReply}
 use Rattle.houghbreeze.proofs.SizesLaws.{passes}
 
 pub site-open-passes : (image : List ℕ) (f weight : ℕ) {after : List ℕ} {r : HbReply} → OpenGives image f weight after r → SiteOpenGives image f weight after r

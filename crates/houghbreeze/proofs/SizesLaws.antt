@@ -27,13 +27,13 @@ use Rattle.order.specs.declared.Placed.{Placed}
 use Rattle.order.specs.declared.Departed.{Departed}
 use Rattle.order.specs.declared.Counted.{Counted}
 use Rattle.order.proofs.StateLaws.{bytes-count}
-use Rattle.houghbreeze.specs.Image.{roundBytes, imageOf, imageLength, roundStart, roundIn, stateIn, turnFits, SoundImage}
+use Rattle.image.specs.Image.{roundBytes, imageOf, imageLength, roundStart, roundIn, stateIn, turnFits, SoundImage}
 use Rattle.houghbreeze.specs.Promised as Firmware
 use Rattle.houghbreeze.specs.Promised.{Gives}
-use Rattle.houghbreeze.specs.Replies.{ofAnswer, ofReply, ofCount, countFits}
-use Rattle.houghbreeze.specs.declared.HbReply.{HbReply}
-use Rattle.houghbreeze.proofs.ImageLaws.{turn-fits, image-sound}
-use Rattle.houghbreeze.proofs.RoundBytes.{round-bytes-length}
+use Rattle.image.specs.Replies.{ofAnswer, ofReply, ofCount, countFits}
+use Rattle.image.specs.declared.HbReply.{HbReply}
+use Rattle.image.proofs.ImageLaws.{turn-fits, image-sound}
+use Rattle.image.proofs.RoundBytes.{round-bytes-length}
 
 -- What a call of the layer gives, with its image and its reply.
 pub passes : {R : Type 0} {Promise : R → Type 0} {stateOf : R → State} {saying : R → HbReply} (given : R) → Promise given → Sound (stateOf given)

@@ -1,6 +1,3 @@
--- The calls for firmware: the image of a state (Image), what C reads as a reply (Replies), what each call promises (Promised), and what runs of these
--- calls do (Runs).
-pub mod Image
-pub mod Replies
+-- The calls for firmware: what each call promises (Promised), and what runs of these calls do (Runs).
 pub mod Promised
 pub mod Runs

@@ -11,9 +11,9 @@ use Rattle.order.specs.Promised as Order
 use Rattle.order.specs.declared.State.{State}
 use Rattle.store.specs.Promised as Store
 use Rattle.store.specs.declared.Site.{Site}
-use Rattle.houghbreeze.specs.Image.{imageOf, stateIn, SoundImage}
-use Rattle.houghbreeze.specs.Replies.{ofAnswer, ofReply, ofCount}
-use Rattle.houghbreeze.specs.declared.HbReply.{HbReply}
+use Rattle.image.specs.Image.{imageOf, stateIn, SoundImage}
+use Rattle.image.specs.Replies.{ofAnswer, ofReply, ofCount}
+use Rattle.image.specs.declared.HbReply.{HbReply}
 
 -- A call leaves this image and says this, as what the layer's call gives would have it.
 pub record Gives {R : Type 0} (Promise : R → Type 0) (stateOf : R → State) (saying : R → HbReply) (after : List ℕ) (r : HbReply) : Type 0 where

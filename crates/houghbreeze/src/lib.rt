@@ -1,28 +1,14 @@
 // The calls for firmware, as include/houghbreeze.h declares them. An image is lent and changed in place; a reply is handed back by value. The calls on
 // bytes are the calls on sizes, with the packet's bytes moved beside them.
-ghost use Rattle.houghbreeze.specs.Image.{SoundImage};
+ghost use Rattle.image.specs.Image.{SoundImage};
 ghost use Rattle.houghbreeze.specs.Promised.{ResetGives, OpenGives, OfferGives, DepartGives, BurstGives, SiteResetGives, SiteOpenGives, SiteOfferGives, SiteDepartGives};
-use crate::image::IMAGE;
+use image::HbReply;
+use image::IMAGE;
+use image::replies;
 use store::lengths;
 use store::slots;
 
-mod image;
-mod replies;
 mod sizes;
-
-// What C reads as a reply.
-#[repr(C)]
-pub struct HbReply {
-    pub kind: u16,
-    pub refusal: u16,
-    pub flow: u16,
-    pub size: u16,
-    pub mark: u16,
-    pub allowance: u16,
-    pub count: u16,
-    pub slot: u16,
-    pub later: [u16; 8],
-}
 
 #[no_mangle]
 pub extern "C" fn hb_reset(s: &mut [u8; IMAGE])

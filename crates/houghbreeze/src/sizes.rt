@@ -1,10 +1,9 @@
 // The calls on packet sizes, on the bytes of an image: the round is read off it, the call is made on the state's bytes in place, and what changed of the
 // round is put back.
-ghost use Rattle.houghbreeze.specs.Image.{SoundImage};
+ghost use Rattle.image.specs.Image.{SoundImage};
 ghost use Rattle.houghbreeze.specs.Promised.{OpenGives, OfferGives, DepartGives, BurstGives};
-use crate::HbReply;
-use crate::image;
-use crate::replies;
+use image::HbReply;
+use image::replies;
 use layout::CELLS;
 use order::in_place;
 

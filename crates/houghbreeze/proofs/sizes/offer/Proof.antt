@@ -3,7 +3,7 @@ use borrow.Author.Needs.{needs}
 use native.Mathlib.Omega.{arith}
 use denote.Ref.{now}
 use mathlib.Core.Path.{sym}
-use Rattle.houghbreeze.proofs.ImageLaws.{image-length}
+use Rattle.image.proofs.ImageLaws.{image-length}
 use Rattle.houghbreeze.proofs.SizesLaws.{cells-lent, lent-sound, offer-slot, length-lies, offer-passes}
 use Rattle.houghbreeze.proofs.sizes.offer.Statement.{statement}
 use Rattle.houghbreeze.proofs.sizes.offer.Tie as tie

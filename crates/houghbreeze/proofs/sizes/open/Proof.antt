@@ -3,7 +3,7 @@ use borrow.Author.Needs.{needs}
 use native.Mathlib.Omega.{arith}
 use denote.Ref.{now}
 use mathlib.Core.Path.{sym}
-use Rattle.houghbreeze.proofs.ImageLaws.{image-length}
+use Rattle.image.proofs.ImageLaws.{image-length}
 use Rattle.houghbreeze.proofs.SizesLaws.{cells-lent, lent-sound, open-passes}
 use Rattle.houghbreeze.proofs.sizes.open.Statement.{statement}
 use Rattle.houghbreeze.proofs.sizes.open.Tie as tie

@@ -3,11 +3,11 @@ use Prim.Native.Nat.{_<_}
 use mathlib.Core.Path.{ap, subst, _∙_}
 use native.Mathlib.Omega.{arith}
 use lib.ListN.{length}
-use Rattle.houghbreeze.specs.Image.{turnFits}
-use Rattle.houghbreeze.proofs.RoundBytes.{begun-as-long, put-round-length, turn-bytes-are, no-turn-bytes-are, round-stored}
+use Rattle.image.specs.Image.{turnFits}
+use Rattle.image.proofs.RoundBytes.{begun-as-long, put-round-length, turn-bytes-are, no-turn-bytes-are, round-stored}
 use borrow.Author.Needs.{needs}
-use Rattle.houghbreeze.proofs.image.put_round.Statement.{statement}
-use Rattle.houghbreeze.proofs.image.put_round.Tie as tie
+use Rattle.image.proofs.put_round.Statement.{statement}
+use Rattle.image.proofs.put_round.Tie as tie
 
 slice-write-image : tie.Need-slice-write-image
 slice-write-image c = search needs

@@ -7,11 +7,11 @@ use lib.ListN.{length, length-set}
 use lib.Seq.{length-sets}
 use Rattle.layout.specs.Bytes.{digits}
 use Rattle.layout.specs.Layout.{cellsLength}
-use Rattle.houghbreeze.specs.Image.{pairRoom}
-use Rattle.houghbreeze.proofs.RoundBytes.{turn-stored}
+use Rattle.image.specs.Image.{pairRoom}
+use Rattle.image.proofs.RoundBytes.{turn-stored}
 use borrow.Author.Needs.{needs}
-use Rattle.houghbreeze.proofs.image.put_turn.Statement.{statement}
-use Rattle.houghbreeze.proofs.image.put_turn.Tie as tie
+use Rattle.image.proofs.put_turn.Statement.{statement}
+use Rattle.image.proofs.put_turn.Tie as tie
 
 slice-write-image : tie.Need-slice-write-image
 slice-write-image c = search needs

@@ -16,8 +16,8 @@ use Rattle.layout.specs.Layout.{cellsLength, joined, bytesOf}
 use Rattle.order.specs.Encoding.{encode, view, stateWith, Sound}
 use Rattle.order.specs.declared.State.{State}
 use Rattle.order.proofs.StateLaws.{bytes-count, round-of-sound}
-use Rattle.houghbreeze.specs.Image.{turnBytes, turnFits, roundBytes, imageOf, imageLength, stateIn, SoundImage}
-use Rattle.houghbreeze.proofs.RoundBytes.{round-bytes-length, NumbersFit, RoundFits, round-read}
+use Rattle.image.specs.Image.{turnBytes, turnFits, roundBytes, imageOf, imageLength, stateIn, SoundImage}
+use Rattle.image.proofs.RoundBytes.{round-bytes-length, NumbersFit, RoundFits, round-read}
 
 module _ (c : State) (S : Sound c) where
   facts : (f allowed sent : ℕ) → c .round .turn ≡ Turn f allowed sent → TurnFacts (view c) f allowed sent

@@ -2,10 +2,10 @@
 use Prim.Native.Nat.{ℕ, _+_}
 use mathlib.Core.Path.{ap₂, _∙_}
 use lib.ListN.{getD}
-use Rattle.houghbreeze.specs.Image.{roundStart, roundIn, turnFrom}
+use Rattle.image.specs.Image.{roundStart, roundIn, turnFrom}
 use borrow.Author.Needs.{needs}
-use Rattle.houghbreeze.proofs.image.round_at.Statement.{statement}
-use Rattle.houghbreeze.proofs.image.round_at.Tie as tie
+use Rattle.image.proofs.round_at.Statement.{statement}
+use Rattle.image.proofs.round_at.Tie as tie
 
 pair-at-requires : tie.Need-pair-at-requires
 pair-at-requires c κs = search needs

@@ -1,10 +1,10 @@
 -- The slot of what was done, or a refusal.
 use mathlib.Core.Path.{ap, sym, _∙_}
 use Rattle.model.specs.declared.Answer.{Answer}
-use Rattle.houghbreeze.specs.Replies.{ofAnswer}
+use Rattle.image.specs.Replies.{ofAnswer}
 use borrow.Author.Needs.{needs}
-use Rattle.houghbreeze.proofs.replies.of_answer.Statement.{statement}
-use Rattle.houghbreeze.proofs.replies.of_answer.Tie as tie
+use Rattle.image.proofs.replies.of_answer.Statement.{statement}
+use Rattle.image.proofs.replies.of_answer.Tie as tie
 
 enum-told : tie.Need-enum-told
 enum-told c = search needs

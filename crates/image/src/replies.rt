@@ -1,7 +1,7 @@
-// What C reads as a reply.
+// A call's answer, reply or count as C reads it.
 ghost use mathlib.Core.Path.{_≡_};
 ghost use Prim.Native.Nat.{_<_, _≤_};
-ghost use Rattle.houghbreeze.specs.Replies.{reply as replyOf, ofAnswer, ofReply, ofCount, countFits};
+ghost use Rattle.image.specs.Replies.{reply as replyOf, ofAnswer, ofReply, ofCount, countFits};
 use crate::HbReply;
 use model::Answer;
 use model::Count;

@@ -1,4 +1,4 @@
-// The image of a state: the bytes of its flows and its line, and then the round's numbers.
+// The image of a state as firmware keeps it: the bytes of its flows and its line, and then the round's numbers; and what C reads as a reply.
 ghost use mathlib.Core.Path.{_≡_};
 ghost use mathlib.Core.List.{_∷_, _++_};
 ghost use Prim.Native.Nat.{_≤_, _<_, _+_};
@@ -6,10 +6,26 @@ ghost use lib.ListN.{length, take, set, replicate};
 ghost use lib.Seq.{sets};
 ghost use Rattle.layout.specs.Bytes.{digits};
 ghost use Rattle.layout.specs.Layout.{cellsLength};
-ghost use Rattle.houghbreeze.specs.Image.{pairRoom, pairIn, imageLength, turnFits, turnFrom, turnBytes, roundIn, roundBytes};
+ghost use Rattle.image.specs.Image.{pairRoom, pairIn, imageLength, turnFits, turnFrom, turnBytes, roundIn, roundBytes};
 use layout::CELLS;
 use model::Serving;
 use steps::RoundCell;
+
+pub mod replies;
+
+// What C reads as a reply.
+#[repr(C)]
+pub struct HbReply {
+    pub kind: u16,
+    pub refusal: u16,
+    pub flow: u16,
+    pub size: u16,
+    pub mark: u16,
+    pub allowance: u16,
+    pub count: u16,
+    pub slot: u16,
+    pub later: [u16; 8],
+}
 
 pub const LENGTH: usize = CELLS;
 

@@ -1,10 +1,10 @@
 -- The departure, an idle reply or a refusal.
 use mathlib.Core.Path.{ap, sym, _∙_}
 use Rattle.model.specs.declared.Reply.{Reply}
-use Rattle.houghbreeze.specs.Replies.{ofReply}
+use Rattle.image.specs.Replies.{ofReply}
 use borrow.Author.Needs.{needs}
-use Rattle.houghbreeze.proofs.replies.of_reply.Statement.{statement}
-use Rattle.houghbreeze.proofs.replies.of_reply.Tie as tie
+use Rattle.image.proofs.replies.of_reply.Statement.{statement}
+use Rattle.image.proofs.replies.of_reply.Tie as tie
 
 enum-known-reply : tie.Need-enum-known-reply
 enum-known-reply c = search needs

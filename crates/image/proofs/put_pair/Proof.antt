@@ -1,10 +1,10 @@
 -- A store for each of the two bytes.
 use native.Mathlib.Omega.{arith}
 use lib.ListN.{length-set}
-use Rattle.houghbreeze.proofs.RoundBytes.{pair-stored}
+use Rattle.image.proofs.RoundBytes.{pair-stored}
 use borrow.Author.Needs.{needs}
-use Rattle.houghbreeze.proofs.image.put_pair.Statement.{statement}
-use Rattle.houghbreeze.proofs.image.put_pair.Tie as tie
+use Rattle.image.proofs.put_pair.Statement.{statement}
+use Rattle.image.proofs.put_pair.Tie as tie
 
 cast-image : tie.Need-cast-image
 cast-image c = search needs

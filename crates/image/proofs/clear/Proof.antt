@@ -6,9 +6,9 @@ use mathlib.Core.List.{List}
 use native.Mathlib.Omega.{arith}
 use borrow.Author.Needs.{needs}
 use lib.ListN.{length, set, getD, length-set}
-use Rattle.houghbreeze.proofs.ImageLaws.{clearedTo, one-more-cleared, zero-there-already, all-cleared}
-use Rattle.houghbreeze.proofs.image.clear.Statement.{statement}
-use Rattle.houghbreeze.proofs.image.clear.Tie as tie
+use Rattle.image.proofs.ImageLaws.{clearedTo, one-more-cleared, zero-there-already, all-cleared}
+use Rattle.image.proofs.clear.Statement.{statement}
+use Rattle.image.proofs.clear.Tie as tie
 
 abbrev Inv-loop : tie.InvT-loop
 Inv-loop image₀ i₀ image i = (i ≤ length image₀) × (length image ≡ length image₀) × (image ≡ clearedTo image₀ i)

@@ -11,7 +11,7 @@ use Rattle.model.specs.declared.Count.{Count}
 use Rattle.model.specs.declared.Count.the-variants.{Made, Refused as CountRefused}
 use Rattle.model.specs.declared.Reply.{Reply}
 use Rattle.model.specs.declared.Reply.the-variants.{Departure, Idle, Refused}
-use Rattle.houghbreeze.specs.declared.HbReply.{HbReply}
+use Rattle.image.specs.declared.HbReply.{HbReply}
 
 -- A reply's kind is one of these.
 abbrev pub done : ℕ

@@ -3,8 +3,8 @@ use Prim.Native.Nat.{_+_}
 use native.Mathlib.Omega.{arith}
 use Rattle.layout.proofs.Bytes.{sum-is-number}
 use borrow.Author.Needs.{needs}
-use Rattle.houghbreeze.proofs.image.pair_at.Statement.{statement}
-use Rattle.houghbreeze.proofs.image.pair_at.Tie as tie
+use Rattle.image.proofs.pair_at.Statement.{statement}
+use Rattle.image.proofs.pair_at.Tie as tie
 
 shared-slice-read-result : tie.Need-shared-slice-read-result
 shared-slice-read-result c = search needs

@@ -2,10 +2,10 @@
 use Prim.Native.Nat.{_<_}
 use mathlib.Core.Path.{ap, sym, subst, _∙_}
 use native.Mathlib.Omega.{arith}
-use Rattle.houghbreeze.specs.Replies.{ofCount, countFits}
+use Rattle.image.specs.Replies.{ofCount, countFits}
 use borrow.Author.Needs.{needs}
-use Rattle.houghbreeze.proofs.replies.of_count.Statement.{statement}
-use Rattle.houghbreeze.proofs.replies.of_count.Tie as tie
+use Rattle.image.proofs.replies.of_count.Statement.{statement}
+use Rattle.image.proofs.replies.of_count.Tie as tie
 
 enum-known-count : tie.Need-enum-known-count
 enum-known-count c = search needs

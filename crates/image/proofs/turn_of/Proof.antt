@@ -1,8 +1,8 @@
 -- No turn where the byte is 0, else that of the flow before it.
-use Rattle.houghbreeze.proofs.RoundBytes.{no-turn-from, turn-from-one-more}
+use Rattle.image.proofs.RoundBytes.{no-turn-from, turn-from-one-more}
 use borrow.Author.Needs.{needs}
-use Rattle.houghbreeze.proofs.image.turn_of.Statement.{statement}
-use Rattle.houghbreeze.proofs.image.turn_of.Tie as tie
+use Rattle.image.proofs.turn_of.Statement.{statement}
+use Rattle.image.proofs.turn_of.Tie as tie
 
 sub-t6 : tie.Need-sub-t6
 sub-t6 c = search needs

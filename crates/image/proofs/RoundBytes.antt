@@ -13,7 +13,7 @@ use Rattle.steps.specs.declared.RoundCell.{RoundCell}
 use Rattle.layout.specs.Bytes.{byteLimit, digits, number}
 use Rattle.layout.specs.Layout.{cellsLength}
 use Rattle.layout.proofs.Bytes.{number-of-digits}
-use Rattle.houghbreeze.specs.Image.{pairRoom, pairIn, imageLength, turnBytes, turnFrom, roundBytes, roundIn}
+use Rattle.image.specs.Image.{pairRoom, pairIn, imageLength, turnBytes, turnFrom, roundBytes, roundIn}
 
 turn-bytes-length : (t : Serving) → length (turnBytes t) ≡ 5
 unfolding turnBytes digits
