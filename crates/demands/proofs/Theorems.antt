@@ -49,9 +49,9 @@ use Rattle.site_account.proofs.Theorems.{store-account, store-exact-bound, stor
 use Rattle.demands.specs.Demands.{Reached, CodeHistory, SeenOf, Demand1, Demand2, Demand3}
 use Rattle.demands.specs.Layers.{orderLayer, storeLayer, firmwareOrderLayer, firmwareStoreLayer}
 use Rattle.demands.proofs.Faces.{Facing, grounds}
-use Rattle.houghbreeze.specs.Image.{imageOf, stateIn, SoundImage}
+use Rattle.image.specs.Image.{imageOf, stateIn, SoundImage}
 use Rattle.houghbreeze.specs.Runs as Firmware
-use Rattle.houghbreeze.proofs.ImageLaws.{state-read, new-image}
+use Rattle.image.proofs.ImageLaws.{state-read, new-image}
 use Rattle.houghbreeze.proofs.AsLayers.{as-order, from-order, siteWith, imageWith, as-store, from-store}
 use Rattle.order.proofs.StateLaws.{new-gives}
 use Rattle.store.proofs.SiteLaws.{new-law}
@@ -112,6 +112,12 @@ firmware-store-faces =
       premise = λ i form sound. record { form = ap (λ (k : WithStore (List ℕ)). k .keeper) form; sound = sound };
     }
 
+firmware-order-grounds : Grounds firmwareOrderLayer
+firmware-order-grounds = grounds orderLayer order-grounds _ _ _ _ _ _ firmware-order-faces
+
+firmware-store-grounds : Grounds firmwareStoreLayer
+firmware-store-grounds = grounds storeLayer store-grounds _ _ _ _ _ _ firmware-store-faces
+
 -- ---- the three demands
 
 pub order-keeps-demand-1 : Demand1 orderLayer
@@ -134,22 +140,22 @@ store-keeps-demand-3 = demand3 storeLayer store-grounds
 
 -- The same of the calls for firmware, on images.
 pub firmware-order-keeps-demand-1 : Demand1 firmwareOrderLayer
-firmware-order-keeps-demand-1 = demand1 firmwareOrderLayer (grounds orderLayer order-grounds _ _ _ _ _ _ firmware-order-faces)
+firmware-order-keeps-demand-1 = demand1 firmwareOrderLayer firmware-order-grounds
 
 pub firmware-order-keeps-demand-2 : Demand2 firmwareOrderLayer
-firmware-order-keeps-demand-2 = demand2 firmwareOrderLayer (grounds orderLayer order-grounds _ _ _ _ _ _ firmware-order-faces)
+firmware-order-keeps-demand-2 = demand2 firmwareOrderLayer firmware-order-grounds
 
 pub firmware-order-keeps-demand-3 : Demand3 firmwareOrderLayer
-firmware-order-keeps-demand-3 = demand3 firmwareOrderLayer (grounds orderLayer order-grounds _ _ _ _ _ _ firmware-order-faces)
+firmware-order-keeps-demand-3 = demand3 firmwareOrderLayer firmware-order-grounds
 
 pub firmware-store-keeps-demand-1 : Demand1 firmwareStoreLayer
-firmware-store-keeps-demand-1 = demand1 firmwareStoreLayer (grounds storeLayer store-grounds _ _ _ _ _ _ firmware-store-faces)
+firmware-store-keeps-demand-1 = demand1 firmwareStoreLayer firmware-store-grounds
 
 pub firmware-store-keeps-demand-2 : Demand2 firmwareStoreLayer
-firmware-store-keeps-demand-2 = demand2 firmwareStoreLayer (grounds storeLayer store-grounds _ _ _ _ _ _ firmware-store-faces)
+firmware-store-keeps-demand-2 = demand2 firmwareStoreLayer firmware-store-grounds
 
 pub firmware-store-keeps-demand-3 : Demand3 firmwareStoreLayer
-firmware-store-keeps-demand-3 = demand3 firmwareStoreLayer (grounds storeLayer store-grounds _ _ _ _ _ _ firmware-store-faces)
+firmware-store-keeps-demand-3 = demand3 firmwareStoreLayer firmware-store-grounds
 
 -- The old chooser's fault: after any calls no flow stands in line twice, nor in line while it has the turn.
 pub no-controller-in-line-twice : (calls : List Call) (f : ℕ) → count f (standing (chain orderCalls (begin newScheduler) calls .state .round)) ≤ 1
@@ -171,6 +177,23 @@ pub store-idle-changes-nothing : {first : WithStore Scheduler} {calls : List Sto
 store-idle-changes-nothing {first} {calls} {h} {seen} {n} {out} R d none =
     unchanged storeLayer store-grounds R d
     (Kept.unsent-departure-unchanged (chain storeCalls (begin first) calls .state) n out (sym (ap (λ (k : SeenOf storeLayer). k .sends) (seen-same storeLayer store-grounds R d)) ∙ none))
+
+-- So do the calls for firmware leave image, store and outgoing buffer.
+pub firmware-order-idle-changes-nothing : {first : Scheduler} {calls : List Call} {h : CodeHistory firmwareOrderLayer} {seen : List (SeenOf firmwareOrderLayer)} {j : List ℕ}
+    {e : SeenOf firmwareOrderLayer} → Reached firmwareOrderLayer first calls h seen → Firmware.Does (h .state) departing j e → e .sends ≡ [] → j ≡ h .state
+firmware-order-idle-changes-nothing {first} {calls} R d none =
+    unchanged firmwareOrderLayer firmware-order-grounds R d
+    (OnSizes.unsent-departure-unchanged (chain orderCalls (begin first) calls .state)
+    (sym (ap (λ (k : SeenOf firmwareOrderLayer). k .sends) (seen-same firmwareOrderLayer firmware-order-grounds R d)) ∙ none))
+    .0
+
+pub firmware-store-idle-changes-nothing : {first : WithStore Scheduler} {calls : List StoreCall} {h : CodeHistory firmwareStoreLayer} {seen : List (SeenOf firmwareStoreLayer)} {n : ℕ}
+    {out : List ℕ} {s : WithStore (List ℕ)} {e : SeenOf firmwareStoreLayer} → Reached firmwareStoreLayer first calls h seen
+    → Firmware.SiteDoes (h .state) (OnBytes.departing n out) s e → e .sends ≡ [] → (s ≡ h .state) × (e .back ≡ e .lent)
+firmware-store-idle-changes-nothing {first} {calls} {h} {seen} {n} {out} R d none =
+    unchanged firmwareStoreLayer firmware-store-grounds R d
+    (Kept.unsent-departure-unchanged (chain storeCalls (begin first) calls .state) n out
+    (sym (ap (λ (k : SeenOf firmwareStoreLayer). k .sends) (seen-same firmwareStoreLayer firmware-store-grounds R d)) ∙ none))
 
 -- ---- burst
 

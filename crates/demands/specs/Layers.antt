@@ -16,7 +16,7 @@ use Rattle.store.specs.Promised as Store
 use Rattle.store.specs.StoreCalls.{WithStore, withStore, storeCalls, bytesOf, waitingBytes}
 use Rattle.store.specs.Runs as StoreCode
 use Rattle.store.specs.declared.Site.{Site}
-use Rattle.houghbreeze.specs.Image.{imageLength, SoundImage}
+use Rattle.image.specs.Image.{imageLength, SoundImage}
 use Rattle.houghbreeze.specs.Runs as Firmware
 use Rattle.demands.specs.Demands.{Layer}
 

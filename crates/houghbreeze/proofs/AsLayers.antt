@@ -26,13 +26,13 @@ use Rattle.store.specs.Runs as StoreCode
 use Rattle.store.specs.StoreCalls.{StoreCall, WithStore, withStore, lent, back, putOut}
 use Rattle.store.specs.StoreCalls as Bytes
 use Rattle.store.specs.declared.Site.{Site}
-use Rattle.houghbreeze.specs.Image.{imageOf, stateIn, SoundImage}
+use Rattle.image.specs.Image.{imageOf, stateIn, SoundImage}
 use Rattle.houghbreeze.specs.Promised.{Gives, Resets, siteIn}
-use Rattle.houghbreeze.specs.Replies.{heard, ofAnswer, ofReply, ofCount}
+use Rattle.image.specs.Replies.{heard, ofAnswer, ofReply, ofCount}
 use Rattle.houghbreeze.specs.Runs.{takenIf, sentTold, madeTold, Singles, none, one-more, Does, resets, opens, offers, departs, bursts, SiteDoes}
 use Rattle.houghbreeze.specs.Runs as Firmware
-use Rattle.houghbreeze.specs.declared.HbReply.{HbReply}
-use Rattle.houghbreeze.proofs.ImageLaws.{state-read, image-sound}
+use Rattle.image.specs.declared.HbReply.{HbReply}
+use Rattle.image.proofs.ImageLaws.{state-read, image-sound}
 use Rattle.houghbreeze.proofs.SizesLaws.{passes}
 
 -- ---- what C reads
@@ -185,7 +185,7 @@ as-store (Firmware.SiteDoes.offers {s} {f = f} {n = n} {packet = packet} {then =
 as-store (Firmware.SiteDoes.departs {s} {n = n} {out = out} {then = then} {r = r} g) =
     let a = g .given in
     let same : seenDeparting {P = Bytes.Packet} (Says.ofReply (a .reply)) out then (putOut (a .reply) then)
-        ≡ seenDeparting (heard r) out then (map (λ (d : Sent). record { flow = d .flow; bytes = take (d .size) then }) (sentTold r)) =
+    ≡ seenDeparting (heard r) out then (map (λ (d : Sent). record { flow = d .flow; bytes = take (d .size) then }) (sentTold r)) =
     sym (ap (λ (k : HbReply). seenDeparting (heard k) out then (map (λ (d : Sent). record { flow = d .flow; bytes = take (d .size) then }) (sentTold k))) (g .says)
     ∙ ap₂ (λ (k : Said) (l : List Bytes.Packet). seenDeparting k out then l) (reply-heard (a .reply) _) (put-out (a .reply) _ then)) in
     record {

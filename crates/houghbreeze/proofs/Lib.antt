@@ -1,5 +1,5 @@
 -- What is proved of the calls for firmware. The laws that function files apply: SizesLaws and SiteLaws (from what the layers' calls give to what a call
--- for firmware promises), ResetLaws.
+-- for firmware promises), ResetLaws. AsLayers: runs of these calls are runs of the layers' calls.
 pub mod ResetLaws
 pub mod SizesLaws
 pub mod SiteLaws

@@ -10,9 +10,9 @@ use Rattle.model.specs.OrderCalls as Sizes
 use Rattle.model.specs.declared.Sent.{Sent}
 use Rattle.store.specs.StoreCalls.{StoreCall, WithStore, withStore, lent, back}
 use Rattle.store.specs.StoreCalls as Bytes
-use Rattle.houghbreeze.specs.Replies.{heard, done, departure, count}
+use Rattle.image.specs.Replies.{heard, done, departure, count}
 use Rattle.houghbreeze.specs.Promised.{ResetGives, OpenGives, OfferGives, DepartGives, BurstGives, SiteResetGives, SiteOpenGives, SiteOfferGives, SiteDepartGives}
-use Rattle.houghbreeze.specs.declared.HbReply.{HbReply}
+use Rattle.image.specs.declared.HbReply.{HbReply}
 
 -- The packet that is offered, where the reply's kind is done.
 abbrev pub takenIf : {A : Type 0} → HbReply → A → List A
