@@ -1,9 +1,6 @@
 -- Another face of a layer: code that keeps the layer's states in another form, and whose calls do what the layer's calls do on the states that they stand
 -- for. What the layer brings for the demands, such a face brings too.
-use Prim.Native.Nat.{ℕ}
-use mathlib.Core.Path.{_≡_, refl, sym, ap, _∙_, subst}
-use mathlib.Core.List.{List}
-use Rattle.model.proofs.Following.{Follows}
+use mathlib.Core.Path.{_≡_, sym, ap, _∙_, subst}
 use Rattle.demands.specs.Demands.{Layer, SeenOf}
 use Rattle.demands.proofs.Argument.{Grounds}
 

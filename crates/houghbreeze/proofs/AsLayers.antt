@@ -1,10 +1,9 @@
 -- A call for firmware does what its layer's call does on the state that its image stands for, and what C reads is what that call says; and the other way.
 use Prim.Native.Nat.{ℕ, suc}
 use mathlib.Core.Path.{_≡_, refl, sym, ap, ap₂, _∙_, subst}
-use mathlib.Core.List.{List, [], _∷_, _++_, map}
-use mathlib.Core.Bool.{cond}
+use mathlib.Core.List.{List, [], _++_, map}
 use lib.ListN.{length, take}
-use Rattle.model.specs.Chain.{Seen, seenReset, seenAsking, seenDeparting}
+use Rattle.model.specs.Chain.{Seen, seenAsking, seenDeparting}
 use Rattle.model.specs.OrderCalls.{Call}
 use Rattle.model.specs.OrderCalls as Sizes
 use Rattle.model.specs.Replies as Says
@@ -21,13 +20,12 @@ use Rattle.order.specs.Encoding.{view}
 use Rattle.order.specs.Promised as Order
 use Rattle.order.specs.Runs as OrderCode
 use Rattle.order.specs.declared.State.{State}
-use Rattle.store.specs.Promised as Store
 use Rattle.store.specs.Runs as StoreCode
-use Rattle.store.specs.StoreCalls.{StoreCall, WithStore, withStore, lent, back, putOut}
+use Rattle.store.specs.StoreCalls.{StoreCall, WithStore, withStore, back, putOut}
 use Rattle.store.specs.StoreCalls as Bytes
 use Rattle.store.specs.declared.Site.{Site}
 use Rattle.image.specs.Image.{imageOf, stateIn, SoundImage}
-use Rattle.houghbreeze.specs.Promised.{Gives, Resets, siteIn}
+use Rattle.houghbreeze.specs.Promised.{siteIn}
 use Rattle.image.specs.Replies.{heard, ofAnswer, ofReply, ofCount}
 use Rattle.houghbreeze.specs.Runs.{takenIf, sentTold, madeTold, Singles, none, one-more, Does, resets, opens, offers, departs, bursts, SiteDoes}
 use Rattle.houghbreeze.specs.Runs as Firmware

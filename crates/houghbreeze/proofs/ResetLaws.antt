@@ -1,10 +1,9 @@
 -- An image of zeros is that of a new scheduler.
 use Prim.Native.Nat.{ℕ}
-use mathlib.Core.Path.{_≡_, refl, sym, ap, _∙_, subst}
+use mathlib.Core.Path.{_≡_, sym, _∙_, subst}
 use mathlib.Core.List.{List}
 use lib.ListN.{replicate}
 use Rattle.model.specs.Model.{newScheduler}
-use Rattle.model.proofs.Keeps.{new-keeps}
 use Rattle.order.specs.Encoding.{encode}
 use Rattle.order.proofs.StateLaws.{new-gives}
 use Rattle.store.proofs.SiteLaws.{new-law}

@@ -1,11 +1,11 @@
 -- From what a call on sizes gives, and the bytes moved beside it, to what a call on bytes promises.
 use Prim.Native.Nat.{ℕ, zero, suc, _≤_, _<_}
-use mathlib.Core.Path.{_≡_, refl, sym, ap, ap₂, _∙_, subst}
+use mathlib.Core.Path.{_≡_, refl, sym, ap, _∙_, subst}
 use mathlib.Core.List.{List, _++_}
 use mathlib.Core.Bool.{cond}
 use lib.Dec.{eqb}
 use native.Mathlib.Omega.{arith}
-use lib.ListN.{length, getD, take, drop}
+use lib.ListN.{length, getD, take}
 use lib.Seq.{take-all}
 use Rattle.model.specs.Limits.{flowLimit, queueLimit, sizeLimit}
 use Rattle.model.specs.Choose.{ifZero}
@@ -16,22 +16,21 @@ use Rattle.model.specs.declared.Answer.{Answer}
 use Rattle.model.specs.declared.Answer.the-variants.{Refused as AnswerRefused}
 use Rattle.model.specs.declared.Reply.{Reply}
 use Rattle.model.specs.declared.Reply.the-variants.{Departure, Idle, Refused}
-use Rattle.model.specs.declared.Sent.{Sent}
 use Rattle.model.proofs.Departing.{Leaves, departed-leaves, SendsOrStays, sends, stays, sends-or-stays}
 use Rattle.model.proofs.Standing.{nobody-waits}
 use Rattle.steps.specs.Places.{endPlace, nowhere, joiningPlace, leavingPlace}
 use Rattle.steps.specs.declared.Place.{Place}
-use Rattle.order.specs.Encoding.{view, Sound}
+use Rattle.order.specs.Encoding.{view}
 use Rattle.order.specs.Promised as Order
 use Rattle.order.specs.declared.Answered.{Answered}
 use Rattle.order.specs.declared.Departed.{Departed}
 use Rattle.order.specs.declared.Placed.{Placed}
-use Rattle.store.specs.Slots.{storeLength, outLimit, written, held}
+use Rattle.store.specs.Slots.{storeLength, outLimit, written}
 use Rattle.store.specs.Calls.{storeDepartRefusal}
 use Rattle.store.proofs.SiteLaws.{InStore, fetched, open-law, refused-offer, into-fits, stored-there, refused-departure, from-fits, sent-from-there}
 use Rattle.store.proofs.SlotLaws.{held-nothing, written-nothing}
 use Rattle.image.specs.Image.{stateIn, SoundImage}
-use Rattle.houghbreeze.specs.Promised.{Gives, OpenGives, OfferGives, DepartGives, siteIn, SiteOpenGives, SiteOfferGives, SiteDepartGives}
+use Rattle.houghbreeze.specs.Promised.{OpenGives, OfferGives, DepartGives, siteIn, SiteOpenGives, SiteOfferGives, SiteDepartGives}
 use Rattle.image.specs.Replies.{reply, refusedKind, ofAnswer, ofReply}
 use Rattle.image.specs.declared.HbReply.{HbReply}
 use Rattle.houghbreeze.proofs.SizesLaws.{passes}

@@ -4,7 +4,6 @@ use Prim.Native.Nat.{ℕ}
 use mathlib.Core.Path.{_≡_}
 use mathlib.Core.List.{List}
 use lib.ListN.{length}
-use Rattle.model.specs.Model.{Scheduler}
 use Rattle.steps.specs.Places.{joiningPlace, leavingPlace}
 use Rattle.order.specs.Encoding.{view}
 use Rattle.order.specs.Promised as Order

@@ -2,7 +2,7 @@
 -- of zeros is a new scheduler.
 use Prim.Native.Nat.{ℕ, zero, suc, _+_, _<_}
 use mathlib.Core.Path.{_≡_}
-use mathlib.Core.List.{List, [], _∷_, _++_}
+use mathlib.Core.List.{List, _∷_, _++_}
 use lib.ListN.{getD, take, drop}
 use Rattle.model.specs.declared.Serving.{Serving}
 use Rattle.model.specs.declared.Serving.the-variants.{NoTurn, Turn}

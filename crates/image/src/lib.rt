@@ -2,11 +2,11 @@
 ghost use mathlib.Core.Path.{_≡_};
 ghost use mathlib.Core.List.{_∷_, _++_};
 ghost use Prim.Native.Nat.{_≤_, _<_, _+_};
-ghost use lib.ListN.{length, take, set, replicate};
+ghost use lib.ListN.{length, take, replicate};
 ghost use lib.Seq.{sets};
 ghost use Rattle.layout.specs.Bytes.{digits};
 ghost use Rattle.layout.specs.Layout.{cellsLength};
-ghost use Rattle.image.specs.Image.{pairRoom, pairIn, imageLength, turnFits, turnFrom, turnBytes, roundIn, roundBytes};
+ghost use Rattle.image.specs.Image.{pairRoom, pairIn, imageLength, turnFits, turnFrom, roundIn, roundBytes};
 use layout::CELLS;
 use model::Serving;
 use steps::RoundCell;

@@ -1,6 +1,6 @@
 // A call's answer, reply or count as C reads it.
 ghost use mathlib.Core.Path.{_≡_};
-ghost use Prim.Native.Nat.{_<_, _≤_};
+ghost use Prim.Native.Nat.{_<_};
 ghost use Rattle.image.specs.Replies.{reply as replyOf, ofAnswer, ofReply, ofCount, countFits};
 use crate::HbReply;
 use model::Answer;

@@ -119,6 +119,16 @@ pub departed-leaves : (s : Scheduler) → Rules s → (d : Sent) → departed s 
 departed-leaves s R d e =
     departed-leaves-parts (s .flows) (s .round .line) (s .round .visits) (s .round .mark) (s .round .running) (s .round .turn) R d e
 
+-- No departure changes a weight.
+pub visit-weight : (r : Round) (x : Flow) → visit r x .flow .weight ≡ x .weight
+unfolding visit visitBy surplusCleared
+visit-weight r x = go (r .turn) (r .line)
+  where
+    go : (turn : Serving) (line : List ℕ) → visitBy turn line r x .flow .weight ≡ x .weight
+    go (Turn f a n) line = served-weight r x f a n
+    go NoTurn [] = refl
+    go NoTurn (f ∷ line) = served-weight _ _ f _ 0
+
 -- A departure call sends a packet; or nobody stands, and it is idle and changes nothing.
 pub data SendsOrStays (s : Scheduler) : Type 0 where
   sends : (d : Sent) → departed s .reply ≡ Departure d → SendsOrStays s

@@ -1,10 +1,10 @@
 -- A call in place lends the line as the end of the state's bytes, and stores the flow once the line is back.
 use Prim.Native.Nat.{ℕ, _+_, _-_, _≤_, _<_}
-use mathlib.Core.Path.{_≡_, refl, sym, ap, ap₂, _∙_, subst}
+use mathlib.Core.Path.{_≡_, sym, ap, ap₂, _∙_, subst}
 use mathlib.Core.List.{List, [], _∷_, _++_, append-nil}
 use mathlib.Core.Bool.{cond}
 use native.Mathlib.Omega.{arith}
-use lib.ListN.{length, getD, set, take, drop, length-append, length-take, length-drop, drop-of-length-le}
+use lib.ListN.{length, getD, set, take, drop, length-append, length-drop, drop-of-length-le}
 use lib.Seq.{take-all, length-take-le, getD-drop}
 use lib.Dec.{ltb}
 use types.Run.{OneOf}
@@ -13,19 +13,18 @@ use Rattle.model.proofs.Reply.{the-type}
 use Rattle.model.specs.declared.Count.the-variants.{Made}
 use Rattle.model.specs.declared.Reply.the-variants.{Departure}
 use Rattle.model.specs.declared.Sent.{Sent}
-use Rattle.model.specs.Limits.{flowLimit, weightLimit, markLimit}
-use Rattle.model.specs.Choose.{ifEmpty, ifZero}
-use Rattle.model.specs.Model.{Flow, Scheduler, flowAt}
+use Rattle.model.specs.Limits.{flowLimit, markLimit}
+use Rattle.model.specs.Choose.{ifEmpty}
+use Rattle.model.specs.Model.{Flow, Scheduler}
 use Rattle.model.specs.Steps.{visit, whose, packetJoined}
-use Rattle.model.specs.Calls.{openRefusal, offerRefusal, openFlow, departed, nextVisit, put}
-use Rattle.model.specs.Rules.{Rules}
+use Rattle.model.specs.Calls.{openRefusal, offerRefusal, openFlow, departed, nextVisit}
 use Rattle.model.proofs.Choosing.{chosen-has}
 use Rattle.model.proofs.Flows.{here-now}
 use Rattle.model.proofs.Keeps.{departed-keeps}
 use Rattle.model.proofs.Refusals.{may-open}
-use Rattle.steps.specs.Cells.{lineRoom, encodeFlow, viewFlow}
+use Rattle.steps.specs.Cells.{encodeFlow, viewFlow}
 use Rattle.steps.specs.Places.{firstPlace}
-use Rattle.steps.specs.Premises.{RoundInPlace, OfferInPlace, inPlace, viewRound, FlowReady, RoundReady, offerInPlace, offeredParts, openedParts, withLength}
+use Rattle.steps.specs.Premises.{OfferInPlace, inPlace, viewRound, FlowReady, RoundReady, offerInPlace, offeredParts, openedParts, withLength}
 use Rattle.steps.specs.declared.FlowCell.{FlowCell}
 use Rattle.steps.specs.declared.Offered.{Offered}
 use Rattle.steps.specs.declared.Opened.{Opened}

@@ -3,7 +3,7 @@
 use Prim.Native.Nat.{ℕ, zero, suc, _≤_, _<_}
 use mathlib.Core.Path.{_≡_, refl, sym, ap, ap₂, _∙_, subst}
 use mathlib.Core.List.{List, [], _∷_, _++_, map}
-use mathlib.Core.Bool.{Bool, true, false, cond}
+use mathlib.Core.Bool.{Bool, cond}
 use native.Mathlib.Omega.{arith}
 use native.Mathlib.Decide.{decLt}
 use lib.ListN.{length, getD, set, take, length-map, List·getD-map}
@@ -12,13 +12,13 @@ use borrow.Author.Tests.{lt-ltb, le-ltb, le-leb}
 use Rattle.model.specs.Limits.{flowLimit}
 use Rattle.model.specs.Choose.{ifZero}
 use Rattle.model.specs.Model.{Flow, Round, Scheduler, closedFlow, flowAt, newScheduler}
-use Rattle.model.specs.Steps.{surplusCleared, firstLeft, excessKept, settled, served, visit, visitBy, whose, whoseTurn, packetJoined, flowLined}
+use Rattle.model.specs.Steps.{visit, whose, whoseTurn, packetJoined, flowLined}
 use Rattle.model.specs.Calls.{put, unlessRefused, openRefusal, offerRefusal, openFlow, answerOf, opened, offered, departed, nextVisit}
 use Rattle.model.specs.Rules.{Sizes, Rules}
 use Rattle.model.specs.declared.Answer.{Answer}
 use Rattle.model.specs.declared.Serving.{Serving}
-use Rattle.model.specs.declared.Reply.{Reply}
-use Rattle.model.specs.declared.Serving.the-variants.{NoTurn, Turn}
+use Rattle.model.specs.declared.Serving.the-variants.{Turn}
+use Rattle.model.proofs.Departing.{visit-weight}
 use Rattle.model.proofs.Flows.{put-back, none-is-empty}
 use Rattle.model.proofs.Keeps.{new-keeps, opened-keeps, offered-keeps, departed-keeps}
 use Rattle.model.proofs.Standing.{InRange, TurnFacts, HeadFacts, in-range, room-for-another, turn-facts, head-facts, whose-in-reach}
@@ -99,24 +99,10 @@ module _ {c : State} (S : Sound c) where
 pub sound-of : (s : Scheduler) → Rules s → Sound (encode s)
 sound-of s R = record { form = ap encode (sym (seen s R)); rules = subst Rules (sym (seen s R)) R }
 
--- No step changes a weight.
+-- A packet that joins changes no weight.
 joined-weight : (x : Flow) (size : ℕ) → packetJoined x size .weight ≡ x .weight
 unfolding packetJoined
 joined-weight x size = refl
-
-settled-weight : (ends : Bool) (r : Round) (x : Flow) (f allowed sent : ℕ) (reply : Reply) → settled ends r x f allowed sent reply .flow .weight ≡ x .weight
-unfolding settled excessKept
-settled-weight true r x f allowed sent reply = refl
-settled-weight false r x f allowed sent reply = refl
-
-visit-weight : (r : Round) (x : Flow) → visit r x .flow .weight ≡ x .weight
-unfolding visit visitBy served firstLeft surplusCleared
-visit-weight r x = go (r .turn) (r .line)
-  where
-    go : (turn : Serving) (line : List ℕ) → visitBy turn line r x .flow .weight ≡ x .weight
-    go (Turn f allowed sent) line = settled-weight _ _ _ _ _ _ _
-    go NoTurn [] = refl
-    go NoTurn (f ∷ line) = settled-weight _ _ _ _ _ _ _
 
 map-set : (l : List Flow) (n : ℕ) (x : Flow) → set (map encodeFlow l) n (encodeFlow x) ≡ map encodeFlow (set l n x)
 map-set [] n x = refl

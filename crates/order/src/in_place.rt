@@ -1,6 +1,5 @@
 // The calls on packet sizes, in place: the bytes of a state are lent, and its round goes by value. What a call does is said here, once; a method with self
 // lends the bytes of its own state, and a caller in another language lends the bytes of an image.
-ghost use Prim.Native.Nat.{_<_};
 ghost use Rattle.order.specs.Encoding.{stateWith, Sound};
 ghost use Rattle.order.specs.Promised.{OpenGives, OfferGives, DepartGives, BurstGives, openedIn, placedIn, departedIn, countedIn};
 use crate::LentBurst;

@@ -8,7 +8,7 @@ use Rattle.model.specs.Steps.{Visit, roundStarted, headAllowance, turnOpened}
 use Rattle.model.specs.declared.Reply.{Reply}
 use Rattle.model.specs.declared.Serving.{Serving}
 use Rattle.model.specs.declared.Serving.the-variants.{NoTurn, Turn}
-use Rattle.steps.specs.Cells.{encodeFlow, viewFlow}
+use Rattle.steps.specs.Cells.{encodeFlow}
 use Rattle.steps.specs.Premises.{RoundInPlace, inPlace, encodeRound, viewRound, FlowReady, HasFirst, RoundReady}
 use Rattle.steps.specs.declared.FlowCell.{FlowCell}
 use Rattle.turns.specs.declared.Visited.{Visited}
