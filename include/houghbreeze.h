@@ -11,7 +11,7 @@
  *   - Pointers are valid for the whole call: a state for its size, a buffer for the length passed with it. A buffer of length 0 may be a null pointer.
  *   - State, store and buffers lie apart: no two of them overlap.
  *   - One call at a time on one state. States that lie apart may be used by several threads at once.
- *   - A state is all zeros, or what hb_reset, hb_site_reset or an earlier call left; the firmware writes nothing in it.
+ *   - A state is all zeros, or what hb_reset, hb_site_reset or an earlier call left; the firmware writes nothing in it, unless it makes all of it zeros.
  *   - One store goes with one site, from the site's first packet on: nothing else writes in it. An old copy of a site is not used again.
  * All else is checked: any numbers and any lengths are taken, and what is bad is refused with a number; a refusal changes nothing. */
 #ifndef HOUGHBREEZE_H
