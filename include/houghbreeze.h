@@ -9,6 +9,7 @@
  *
  * The firmware's duty, which no call can check:
  *   - Pointers are valid for the whole call: a state for its size, a buffer for the length passed with it. A buffer of length 0 may be a null pointer.
+ *     States and buffers may lie at any address: their alignment is 1.
  *   - State, store and buffers lie apart: no two of them overlap.
  *   - One call at a time on one state. States that lie apart may be used by several threads at once.
  *   - A state is all zeros, or what hb_reset, hb_site_reset or an earlier call left; the firmware writes nothing in it, unless it makes all of it zeros.

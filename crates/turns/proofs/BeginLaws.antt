@@ -17,7 +17,7 @@ use Rattle.model.proofs.Flows.{cleared-flow-rules, none-is-empty}
 use Rattle.model.proofs.Choosing.{chosen-has}
 use Rattle.steps.specs.Cells.{lineRoom, cells, encodeFlow, viewFlow}
 use Rattle.steps.specs.Premises.{RoundInPlace, encodeRound, viewRound, FlowReady, RoundReady}
-use Rattle.turns.specs.Visits.{MayServe, MayBegin, MayVisit, begunBy, begunTurn, encodeVisit}
+use Rattle.turns.specs.Visits.{MayServe, MayBegin, MayVisit, VisitInPlace, begunBy, begunTurn, encodeVisit}
 use Rattle.steps.specs.declared.FlowCell.{FlowCell}
 use Rattle.turns.proofs.TurnLaws.{same-visit}
 use Rattle.steps.proofs.Encoded.{flow-seen, flow-ready, round-seen, round-ready, waiting-is, line-is, length-is}
@@ -263,6 +263,10 @@ module _ (r : RoundInPlace) (x : FlowCell) (h : MayVisit r x) where
           let same : Turn g (headAllowance (viewRound r) (viewFlow x)) 0 ≡ Turn f allowed sent = sym opens ∙ t in
           subst (λ (n : ℕ). Serves b f allowed n clear) (ap sentOf same)
           (subst (λ (n : ℕ). Serves b f n 0 clear) (ap allowedOf same) (subst (λ (n : ℕ). Serves b n (headAllowance (viewRound r) (viewFlow x)) 0 clear) (ap flowOf same) S)))
+
+      pub begun-served : (f allowed sent : ℕ) → b .turn ≡ Turn f allowed sent → {v : VisitInPlace} → v ≡ encodeVisit (served (viewRound b) (viewFlow clear) f allowed sent)
+          → v ≡ encodeVisit (visit (viewRound r) (viewFlow x))
+      begun-served f allowed sent t g = g ∙ sym (ap encodeVisit (begun-serves f allowed sent t .visits))
 
       pub begun-idle : b .turn ≡ NoTurn → record { round = b; flow = x; reply = Idle } ≡ encodeVisit (visit (viewRound r) (viewFlow x))
       begun-idle t =

@@ -1,10 +1,9 @@
 -- The turn that is then open is served; where none is, the call is idle.
-use mathlib.Core.Path.{refl, _∙_, sym, ap}
+use mathlib.Core.Path.{refl}
 use borrow.Author.Needs.{needs}
-use Rattle.turns.proofs.BeginLaws.{begun-serves, begun-idle}
+use Rattle.turns.proofs.BeginLaws.{begun-serves, begun-served, begun-idle}
 use denote.Ref.{now}
 use Rattle.steps.specs.Premises.{inPlace}
-use Rattle.turns.specs.Visits.{encodeVisit}
 use Rattle.turns.proofs.visit.Statement.{statement}
 use Rattle.turns.proofs.visit.Tie as tie
 
@@ -38,12 +37,9 @@ returns c =
     let begun = c .before .before .before .before .before .before .before .before .before .before .begun in
     let cleared = c .before .before .before .cleared in
     let turn = c .before .before .before .before .before .before .turn in
-    c .before .before .served .ensures
-    ∙ sym
-    (ap encodeVisit
-    (begun-serves (inPlace (now (start .args .line)) (start .args .r)) (start .args .x) (start .pre) (cleared .result) (cleared .ensures)
+    begun-served (inPlace (now (start .args .line)) (start .args .r)) (start .args .x) (start .pre) (cleared .result) (cleared .ensures)
     (inPlace (begun .last .0) (begun .result)) (begun .ensures) (turn .given .0 .0) (turn .given .0 .1 .0) (turn .given .0 .1 .1 .0) (turn .given .1)
-    .visits))
+    (c .before .before .served .ensures)
 
 same-length-2 : tie.Need-same-length-2
 same-length-2 c = search needs
