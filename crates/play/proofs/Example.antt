@@ -8,9 +8,9 @@ use Rattle.lines.specs.Line.{pastWord, fieldAt, pairAt, eventAt, lineAt}
 use Rattle.lines.specs.Written.{lastDigits, decimal}
 use Rattle.play.specs.Script.{scriptFrom, scriptOf}
 use Rattle.play.specs.Story.{newReplay, answered, numbered, departing, sending, happening, story}
-use Rattle.play.specs.Transcript.{replyText, lineOf, textOf, transcript}
+use Rattle.play.specs.Transcript.{replyText, lineOf, textOf, reports, transcript}
 use Rattle.play.proofs.Worked.{workedInput, workedLines}
 
 pub worked-example : transcript workedInput ≡ workedLines
-unfolding newScheduler packetJoined flowLined roundStarted turnOpened surplusCleared firstLeft turnKept raised turnClosed excessKept settled served visitBy visit put unlessRefused opened offered departed andThen departures stands digitAt digitsFrom numberAt pastWord fieldAt pairAt eventAt lineAt lastDigits decimal scriptFrom scriptOf newReplay answered numbered departing sending happening story replyText lineOf textOf transcript workedInput workedLines
+unfolding newScheduler packetJoined flowLined roundStarted turnOpened surplusCleared firstLeft turnKept raised turnClosed excessKept settled served visitBy visit put unlessRefused opened offered departed andThen departures stands digitAt digitsFrom numberAt pastWord fieldAt pairAt eventAt lineAt lastDigits decimal scriptFrom scriptOf newReplay answered numbered departing sending happening story replyText lineOf textOf reports transcript workedInput workedLines
 worked-example = refl

@@ -1,14 +1,17 @@
 -- No transcript is longer than three times the longest input and a line. Every line that is printed is paid for by bytes of the input, three for one:
 -- a departure's line by the line on which its packet arrived.
---     transcript-fits    a buffer of four times the longest input holds every transcript
---     nothing-left-off   so what `play` puts into such a buffer is the whole transcript
---     count-within       what is printed lies within the buffer, so that a caller may lend it on
+--     transcript-fits        a buffer of four times the longest input holds every transcript
+--     nothing-left-off       so what `play` puts into such a buffer is the whole transcript
+--     at-most-4096-depart    no input has more departures
+--     log-fits               a log of an eighth of the longest input holds them all
+--     no-departure-left-off  so such a log notes them all
+--     count-within           what is printed lies within the buffer, so that a caller may lend it on
 use Prim.Native.Nat.{ℕ, zero, suc, _+_, _*_, _-_, _^_, _<_, _≤_}
 use native.Mathlib.Decide.{decLt}
 use native.Mathlib.Omega.{arith}
 use mathlib.Core.Bool.{Bool, true, false, cond, _||_}
 use mathlib.Core.List.{List, [], _∷_, _++_}
-use mathlib.Core.Path.{_≡_, refl, ap}
+use mathlib.Core.Path.{_≡_, refl, sym, ap, subst}
 use lib.ListN.{length, drop, length-append}
 use lib.Dec.{leb, ltb, eqb}
 use Rattle.model.specs.Limits.{flowLimit, weightLimit, sizeLimit, queueLimit}
@@ -36,7 +39,9 @@ use Rattle.print.proofs.PageLaws.{printed-whole}
 use Rattle.play.specs.Script.{Script, scriptFrom, scriptOf}
 use Rattle.play.specs.Story.{Report, bad, refused, sent, idle, Replay, Happening, newReplay, answered, numbered, departing, sending, happening, story}
 use Rattle.play.specs.Transcript.{inputLimit, outputLimit, replyText, lineOf, textOf, transcript}
-use Rattle.play.proofs.PlayLaws.{too-long, short-enough}
+use Rattle.play.specs.Log.{departuresIn, departuresOf, logOf, logLimit}
+use Rattle.play.proofs.LogLaws.{departures-append, log-length, counts-departures}
+use Rattle.play.proofs.PlayLaws.{too-long-reports, short-reports}
 use Rattle.play.proofs.ScriptLaws.{ends, reads, spoils}
 use Rattle.play.proofs.StoryLaws.{text-append, text-of-one}
 
@@ -239,22 +244,29 @@ event-pays r line (Send count) R l f = send-pays r count R f
 
 -- ---- the whole replay
 
--- what is printed from a place on
-abbrev Bounded : ℕ → List ℕ → ℕ → ℕ → Replay → Type 0
-Bounded most input at line r = length (textOf (story r line (scriptFrom most input at))) ≤ 48 * waiting (r .scheduler) + 3 * (length input - at) + 10
+-- What is reported from a place on is short, and its departures with those before it are few.
+record Bound (input : List ℕ) (at : ℕ) (r : Replay) (l : List Report) : Type 0 where
+  pub printed : length (textOf l) ≤ 48 * waiting (r .scheduler) + 3 * (length input - at) + 10
+  pub departing : 16 * (r .departed + length (departuresIn l)) ≤ length input
 
-story-length : (most : ℕ) (input : List ℕ) (at line : ℕ) (r : Replay) → length input ≤ inputLimit → at ≤ length input → line ≤ at + 1 → Rules (r .scheduler)
+abbrev Bounded : ℕ → List ℕ → ℕ → ℕ → Replay → Type 0
+Bounded most input at line r = Bound input at r (story r line (scriptFrom most input at))
+
+story-bound : (most : ℕ) (input : List ℕ) (at line : ℕ) (r : Replay) → length input ≤ inputLimit → at ≤ length input → line ≤ at + 1 → Rules (r .scheduler)
     → 16 * (r .departed + waiting (r .scheduler)) ≤ at
     → Bounded most input at line r
-unfolding scriptFrom story textOf
-story-length zero input at line r short place l R c = omega arith
-story-length (suc most) input at line r short place l R c =
-    by-place (decLt at (length input)) (λ event next further within P j. story-length most input next (line + 1) (happening r line event .after) short within (omega arith) (P .keeps) j)
+unfolding scriptFrom story textOf departuresIn
+story-bound zero input at line r short place l R c = record { printed = omega arith; departing = omega arith }
+story-bound (suc most) input at line r short place l R c =
+    by-place (decLt at (length input)) (λ event next further within P j. story-bound most input next (line + 1) (happening r line event .after) short within (omega arith) (P .keeps) j)
   where
     Again : Type 0
     Again = (event : Event) (next : ℕ) → at < next → next ≤ length input → Pays r (happening r line event) (cost event)
         → 16 * (happening r line event .after .departed + waiting (happening r line event .after .scheduler)) ≤ next
         → Bounded most input next (line + 1) (happening r line event .after)
+
+    known : {s : Script} → scriptFrom (suc most) input at ≡ s → Bound input at r (story r line s) → Bounded (suc most) input at line r
+    known e h = subst (λ (s : Script). Bound input at r (story r line s)) (sym e) h
 
     by-line : at < length input → Again → (m : Line) → lineAt input at ≡ m → Bounded (suc most) input at line r
     by-line within again (Read event next) e =
@@ -263,33 +275,48 @@ story-length (suc most) input at line r short place l R c =
         let P = event-pays r line event R (omega arith) (omega arith) in
         let x = happening r line event in
         let rest = story (x .after) (line + 1) (scriptFrom most input next) in
-        omega (
-          arith,
-          ap (λ (s : Script). length (textOf (story r line s))) (reads input most at within e),
-          ap length (text-append (x .reports) rest),
-          length-append (textOf (x .reports)) (textOf rest),
-          P .printed,
-          read,
-          written-length event,
-          on .1,
-          again event next (on .0) (on .1) P (omega (arith, P .counted, read, written-length event)),
-        )
+        let B = again event next (on .0) (on .1) P (omega (arith, P .counted, read, written-length event)) in
+        known (reads input most at within e)
+        (record {
+          printed =
+              omega
+              (arith, ap length (text-append (x .reports) rest), length-append (textOf (x .reports)) (textOf rest), P .printed, read, written-length event, on .1, B .printed);
+          departing =
+              omega (
+                arith,
+                ap length (departures-append (x .reports) rest),
+                length-append (departuresIn (x .reports)) (departuresIn rest),
+                counts-departures r line event,
+                B .departing,
+              );
+        })
     by-line within again Bad e =
-        omega
-        (arith, ap (λ (s : Script). length (textOf (story r line s))) (spoils input most at within e), ap length (text-of-one (bad line)), bad-length line (omega arith))
+        known (spoils input most at within e)
+        (record { printed = omega (arith, ap length (text-of-one (bad line)), bad-length line (omega arith)); departing = omega arith })
 
     by-place : Dec (at < length input) → Again → Bounded (suc most) input at line r
     by-place (yes within) again = by-line within again (lineAt input at) refl
-    by-place (no past) again = omega (arith, ap (λ (s : Script). length (textOf (story r line s))) (ends input (suc most) at (omega arith)))
+    by-place (no past) again = known (ends input (suc most) at (omega arith)) (record { printed = omega arith; departing = omega arith })
+
+whole-bound : (input : List ℕ) → length input ≤ inputLimit → Bound input 0 newReplay (story newReplay 1 (scriptOf input))
+unfolding newReplay newScheduler scriptOf
+whole-bound input short = story-bound (length input) input 0 1 newReplay short (omega arith) (omega arith) new-keeps (omega (arith, nothing-waits))
 
 transcript-length : (input : List ℕ) → length (transcript input) ≤ 3 * inputLimit + 10
-unfolding newReplay newScheduler scriptOf
+unfolding transcript newReplay newScheduler
 transcript-length input =
     elim (decLt inputLimit (length input)) [
-      | yes long ↦ omega (arith, ap length (too-long input long), bad-length 0 (omega arith))
-      | no short ↦
-          omega
-          (arith, ap length (short-enough input (omega arith)), story-length (length input) input 0 1 newReplay (omega arith) (omega arith) (omega arith) new-keeps (omega (arith, nothing-waits)), nothing-waits)
+      | yes long ↦ omega (arith, ap (λ (l : List Report). length (textOf l)) (too-long-reports input long), ap length (text-of-one (bad 0)), bad-length 0 (omega arith))
+      | no short ↦ omega (arith, ap (λ (l : List Report). length (textOf l)) (short-reports input (omega arith)), whole-bound input (omega arith) .printed, nothing-waits)
+    ]
+
+-- A packet that departs has arrived on a line of 16 bytes at least.
+few-depart : (input : List ℕ) → 16 * length (departuresOf input) ≤ inputLimit
+unfolding departuresOf departuresIn newReplay
+few-depart input =
+    elim (decLt inputLimit (length input)) [
+      | yes long ↦ omega (arith, ap (λ (l : List Report). length (departuresIn l)) (too-long-reports input long))
+      | no short ↦ omega (arith, ap (λ (l : List Report). length (departuresIn l)) (short-reports input (omega arith)), whole-bound input (omega arith) .departing)
     ]
 
 -- ---- the theorems
@@ -297,8 +324,18 @@ transcript-length input =
 pub transcript-fits : (input : List ℕ) → length (transcript input) ≤ outputLimit
 transcript-fits input = omega (arith, transcript-length input)
 
+pub at-most-4096-depart : (input : List ℕ) → length (departuresOf input) ≤ 4_096
+at-most-4096-depart input = omega (arith, few-depart input)
+
+pub log-fits : (input : List ℕ) → length (logOf (departuresOf input)) ≤ logLimit
+log-fits input = omega (arith, log-length (departuresOf input), at-most-4096-depart input)
+
 pub nothing-left-off : (input : List ℕ) {before after : List ℕ} {count : ℕ} → outputLimit ≤ length before → Printed (transcript input) before after count → PrintedWhole (transcript input) before after count
 nothing-left-off input room p = printed-whole (omega (arith, transcript-fits input)) p
+
+pub no-departure-left-off : (input : List ℕ) {before after : List ℕ} {count : ℕ} → logLimit ≤ length before → Printed (logOf (departuresOf input)) before after count
+    → PrintedWhole (logOf (departuresOf input)) before after count
+no-departure-left-off input room p = printed-whole (omega (arith, log-fits input)) p
 
 pub count-within : {text before after : List ℕ} {count : ℕ} → PrintedWhole text before after count → count ≤ length after
 count-within {text} {before} p = omega (arith, p .counted, ap length (p .written), length-append text (drop (length text) before))

@@ -33,6 +33,10 @@ unfoldable pub textOf : List Report → List ℕ
 textOf [] = []
 textOf (r ∷ more) = lineOf r ++ textOf more
 
--- What the replay of an input prints. Too long an input gives only `bad=0`.
+-- What the replay of an input reports. Too long an input gives only `bad=0`.
+unfoldable pub reports : List ℕ → List Report
+reports input = cond (ltb inputLimit (length input)) (bad 0 ∷ []) (story newReplay 1 (scriptOf input))
+
+-- What the replay of an input prints.
 unfoldable pub transcript : List ℕ → List ℕ
-transcript input = textOf (cond (ltb inputLimit (length input)) (bad 0 ∷ []) (story newReplay 1 (scriptOf input)))
+transcript input = textOf (reports input)

@@ -27,8 +27,8 @@ enum-known-event-3 c = search needs
 
 send-requires : tie.Need-send-requires
 send-requires c κs =
-    let start = c .before .before .before .before .before in
-    let event3 = c .before .before .event3 in
+    let start = c .before .before .before .before .before .before .before in
+    let event3 = c .before .before .before .event3 in
     (start .pre .0, send-fits _ _ (event3 .given .1) (start .pre .1))
 
 same-length : tie.Need-same-length
@@ -36,7 +36,7 @@ same-length c = search needs
 
 returns : tie.Need-returns
 returns c =
-    let start = c .before .before .before .before .before .before .before .before .before .before .before in
+    let start = c .before .before .before .before .before .before .before .before .before .before .before .before in
     let event = c .before .before .before .before .before .before .before .before .event in
     let before = c .before .before .before .before .before in
     let line = c .before .before .before .answer-line in
@@ -47,7 +47,7 @@ same-length-2 c = search needs
 
 returns-2 : tie.Need-returns-2
 returns-2 c =
-    let start = c .before .before .before .before .before .before .before .before .before .before .before in
+    let start = c .before .before .before .before .before .before .before .before .before .before .before .before in
     let event2 = c .before .before .before .before .before .before .before .before .event2 in
     let offer = c .before .before .before .before .before .offer in
     let line2 = c .before .before .before .answer-line2 in
@@ -56,12 +56,15 @@ returns-2 c =
 same-length-3 : tie.Need-same-length-3
 same-length-3 c = search needs
 
+same-length-4 : tie.Need-same-length-4
+same-length-4 c = search needs
+
 returns-3 : tie.Need-returns-3
 returns-3 c =
-    let start = c .before .before .before .before .before .before .before .before in
-    let event3 = c .before .before .before .before .before .event3 in
-    let send = c .before .before .send in
-    send-happens _ (start .pre .0) _ _ _ _ (event3 .given .1) (send .ensures)
+    let start = c .before .before .before .before .before .before .before .before .before .before .before .before in
+    let event3 = c .before .before .before .before .before .before .before .before .event3 in
+    let send = c .before .before .before .before .send in
+    send-happens _ (start .pre .0) _ _ _ _ _ (event3 .given .1) (send .ensures)
 
 pub run-spec : {M : Type 1} → statement M
 run-spec =
@@ -80,4 +83,5 @@ run-spec =
     same-length-2
     returns-2
     same-length-3
+    same-length-4
     returns-3)
