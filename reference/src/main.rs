@@ -11,12 +11,15 @@ mod random;
 mod replay;
 mod rows;
 mod scheduler;
+mod sheet;
 mod soak;
 mod store;
 mod trace;
+mod weeks;
 
 use std::env;
 use std::error::Error;
+use std::ffi::OsString;
 use std::io::{self, BufWriter, Read, Write};
 use std::path::Path;
 use std::process::ExitCode;
@@ -32,13 +35,18 @@ usage: reference replay                 event lines in, departures out
        reference soak N                 N random traces and 100 times as many random calls of
                                         each layer, under every rule and with every corner met
        reference against FIRST N DIR PROGRAM [ARG..]
-                                        N seeds from FIRST through PROGRAM as well";
+                                        N seeds from FIRST through PROGRAM as well
+       reference sheet EVENTS OUTPUT [EVENTS OUTPUT..]
+                                        the share sheet of these sites
+       reference weeks FIRST N DIR PROGRAM [ARG..]
+                                        the sheets of N random weeks from FIRST through PROGRAM
+                                        as well, with every corner met; PROGRAM runs inside DIR";
 
 /// Whether the command found everything right.
 type Verdict = Result<bool, Box<dyn Error>>;
 
 fn main() -> ExitCode {
-    let words: Vec<String> = env::args().skip(1).collect();
+    let words: Vec<OsString> = env::args_os().skip(1).collect();
     match command(&words) {
         Ok(true) => ExitCode::SUCCESS,
         Ok(false) => ExitCode::FAILURE,
@@ -49,9 +57,15 @@ fn main() -> ExitCode {
     }
 }
 
-fn command(words: &[String]) -> Verdict {
-    let words: Vec<&str> = words.iter().map(String::as_str).collect();
-    match words[..] {
+fn command(words: &[OsString]) -> Verdict {
+    // File names may be no text; all other words are.
+    if let [sheet, names @ ..] = words {
+        if sheet == "sheet" {
+            return print_bytes(&sheet::sheet(names));
+        }
+    }
+    let words: Option<Vec<&str>> = words.iter().map(|word| word.to_str()).collect();
+    match words.ok_or(USAGE)?[..] {
         ["replay"] => run_replay(),
         ["kinds"] => print_lines(trace::KINDS.iter().map(|(name, _)| name.to_string())),
         ["trace", kind, seed] => print_trace(kind, seed.parse()?),
@@ -62,6 +76,9 @@ fn command(words: &[String]) -> Verdict {
         ["soak", seeds] => run_soak(seeds.parse()?),
         ["against", first, count, keep, ref program @ ..] if !program.is_empty() => {
             run_against(first.parse()?, count.parse()?, Path::new(keep), program)
+        }
+        ["weeks", first, count, keep, ref program @ ..] if !program.is_empty() => {
+            run_weeks(first.parse()?, count.parse()?, Path::new(keep), program)
         }
         _ => Err(USAGE.into()),
     }
@@ -121,6 +138,23 @@ fn run_against(first: u64, count: u64, keep: &Path, program: &[&str]) -> Verdict
         Some(seed) => {
             let kind = trace::kind_of(seed);
             println!("trace {kind} {seed} differs, see {}", keep.display());
+            Ok(false)
+        }
+    }
+}
+
+fn run_weeks(first: u64, count: u64, keep: &Path, program: &[&str]) -> Verdict {
+    let (coverage, fault) = weeks::first_fault(first..first + count, keep, program)?;
+    match fault {
+        None => {
+            coverage.print();
+            if coverage.is_whole() {
+                println!("{count} weeks agree, seeds from {first}");
+            }
+            Ok(coverage.is_whole())
+        }
+        Some(fault) => {
+            println!("{fault}, see {}", keep.display());
             Ok(false)
         }
     }

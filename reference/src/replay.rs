@@ -2,33 +2,46 @@
 
 use crate::event::{events, Event};
 use crate::limits::REPLAY_INPUT;
-use crate::scheduler::Scheduler;
+use crate::scheduler::{Departure, Scheduler};
 use std::fmt::Write;
 
 /// What the replay prints for an input. One byte past the limit is enough to see it is too long.
 pub fn replay(input: &[u8]) -> String {
-    if input.len() > REPLAY_INPUT {
-        return "bad=0\n".to_string();
-    }
+    replayed(input).output
+}
+
+/// What came of an input.
+#[derive(Default)]
+pub struct Replayed {
+    pub output: String,
+    pub departures: Vec<Departure>,
+    /// The line that is no event, from 1; 0 for too long an input.
+    pub bad: Option<usize>,
+}
+
+pub fn replayed(input: &[u8]) -> Replayed {
     let mut replay = Replay::default();
+    if input.len() > REPLAY_INPUT {
+        replay.end_badly(0);
+        return replay.so_far;
+    }
     for (index, event) in events(input).enumerate() {
         let line = index + 1;
         match event {
             Some(event) => replay.run(event, line),
             None => {
-                replay.print(format_args!("bad={line}"));
+                replay.end_badly(line);
                 break;
             }
         }
     }
-    replay.output
+    replay.so_far
 }
 
 #[derive(Default)]
 struct Replay {
     scheduler: Scheduler,
-    departures: u64,
-    output: String,
+    so_far: Replayed,
 }
 
 impl Replay {
@@ -49,12 +62,12 @@ impl Replay {
 
     fn send(&mut self, count: i64) {
         for _ in 0..count {
-            let so_far = self.departures;
+            let so_far = self.so_far.departures.len();
             let left = match self.scheduler.depart() {
                 Some(departure) => departure,
                 None => return self.print(format_args!("idle={so_far}")),
             };
-            self.departures += 1;
+            self.so_far.departures.push(left);
             self.print(format_args!(
                 "sent={} flow={} size={} mark={} allow={}",
                 so_far + 1,
@@ -66,7 +79,12 @@ impl Replay {
         }
     }
 
+    fn end_badly(&mut self, line: usize) {
+        self.print(format_args!("bad={line}"));
+        self.so_far.bad = Some(line);
+    }
+
     fn print(&mut self, line: std::fmt::Arguments) {
-        writeln!(self.output, "{line}").expect("writing to a string succeeds");
+        writeln!(self.so_far.output, "{line}").expect("writing to a string succeeds");
     }
 }
