@@ -6,7 +6,7 @@
 use crate::limits::{FLOWS, REPLAY_INPUT};
 use crate::replay::replayed;
 use crate::scheduler::Departure;
-use std::ffi::OsStr;
+use std::ffi::{OsStr, OsString};
 use std::fmt;
 use std::fs::File;
 use std::io::{self, Read};
@@ -16,31 +16,37 @@ use std::os::unix::ffi::OsStrExt;
 pub const SITES: usize = 64;
 
 /// A name longer than this names no file.
-pub const LONGEST_NAME: usize = 4_095;
+const LONGEST_NAME: usize = 4_095;
 
 /// A line shows at most so many bytes of a name.
 const SHOWN_NAME: usize = 4_096;
 
 const HOW: &str = "name EVENTS OUTPUT for each site, 1 to 64 sites";
 
-/// What the sheet prints for these names, a pair for each site.
-pub fn sheet<N: AsRef<OsStr>>(names: &[N]) -> Vec<u8> {
-    let sites = names.len() / 2;
-    if names.is_empty() {
-        return format!("sheet: no files named; {HOW}\n").into_bytes();
-    }
-    if names.len() % 2 == 1 {
-        let count = names.len();
-        return format!("sheet: an odd number of names, {count}; {HOW}\n").into_bytes();
-    }
-    if sites > SITES {
-        return format!("sheet: {sites} sites named, {SITES} at most; {HOW}\n").into_bytes();
+/// What is printed for these names, a pair for each site: a sheet, or the line of a refusal.
+pub fn sheet(names: &[OsString]) -> Vec<u8> {
+    if let Some(why) = refusal(names.len()) {
+        return format!("sheet: {why}; {HOW}\n").into_bytes();
     }
     let mut sheet = Sheet::default();
     for pair in names.chunks(2) {
-        sheet.take_site(pair[0].as_ref(), pair[1].as_ref());
+        sheet.take_site(&pair[0], &pair[1]);
     }
     sheet.text()
+}
+
+/// Why so many names are refused, if they are.
+fn refusal(names: usize) -> Option<String> {
+    let sites = names / 2;
+    if names == 0 {
+        Some("no files named".to_string())
+    } else if names % 2 == 1 {
+        Some(format!("an odd number of names, {names}"))
+    } else if sites > SITES {
+        Some(format!("{sites} sites named, {SITES} at most"))
+    } else {
+        None
+    }
 }
 
 /// What was sent, by one flow or by all of them.

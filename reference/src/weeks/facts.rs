@@ -36,31 +36,32 @@ pub fn broken_refusal(text: &[u8], start: &str) -> Option<String> {
 }
 
 fn facts(text: &[u8], sites: &[Site], coverage: &mut Coverage) -> Result<(), String> {
-    let control = |byte: &u8| *byte != b'\n' && byte.is_ascii_control();
-    hold(!text.iter().any(control), "a line has a control byte")?;
-    hold(text.ends_with(b"\n"), "the last line has no end")?;
-    let text = String::from_utf8_lossy(text);
-    let mut lines = text.split_terminator('\n');
+    let whole = text.strip_suffix(b"\n").ok_or("the last line has no end")?;
+    let mut lines = whole.split(|&byte| byte == b'\n');
+    let mut line = || {
+        lines
+            .next()
+            .map(String::from_utf8_lossy)
+            .unwrap_or_default()
+    };
 
-    let counted = recounted(sites)?;
     let mut sum = [0; 3];
-    for (flow, counted) in (0..).zip(counted) {
-        let line = lines.next().unwrap_or("");
-        let [number, share @ ..] = numbers(line, ["flow", "packets", "bytes", "largest"])?;
+    for (flow, counted) in (0..).zip(recounted(sites)?) {
+        let [number, share @ ..] = numbers(&line(), ["flow", "packets", "bytes", "largest"])?;
         hold(number == flow, "the flows do not rise by one")?;
         hold(share == counted, "a flow's sums are not its packets'")?;
         sum = [sum[0] + share[0], sum[1] + share[1], sum[2].max(share[2])];
     }
-    let line = lines.next().unwrap_or("");
-    let [flows, total @ ..] = numbers(line, ["flows", "packets", "bytes", "largest"])?;
+    let [flows, total @ ..] = numbers(&line(), ["flows", "packets", "bytes", "largest"])?;
     hold(flows == FLOWS, "the flows are not 32")?;
     hold(total == sum, "the totals are not the flows'")?;
 
-    let line = lines.next().unwrap_or("");
-    let [summed, named] = numbers(line, ["sites", "of"])?;
-    let remarks: Vec<&str> = lines.collect();
-    let second = remarks.iter().map(|line| line.split(' ').nth(1));
-    let left_out = second.filter(|&field| field == Some("summed=no")).count();
+    let [summed, named] = numbers(&line(), ["sites", "of"])?;
+    let remarks: Vec<&[u8]> = lines.collect();
+    let seconds = remarks
+        .iter()
+        .map(|line| line.split(|&byte| byte == b' ').nth(1));
+    let left_out = seconds.filter(|&field| field == Some(b"summed=no")).count();
     hold(named == sites.len() as i64, "a site is not counted")?;
     hold(summed == named - left_out as i64, "the sites do not add up")?;
     remarks_hold(&remarks, sites, coverage)
@@ -106,18 +107,22 @@ fn recounted(sites: &[Site]) -> Result<[Share; FLOWS as usize], String> {
     Ok(shares)
 }
 
-fn remarks_hold(remarks: &[&str], sites: &[Site], coverage: &mut Coverage) -> Result<(), String> {
+fn remarks_hold(remarks: &[&[u8]], sites: &[Site], coverage: &mut Coverage) -> Result<(), String> {
     let mut remarks = remarks.iter();
     for (number, site) in (1..).zip(sites) {
         let what = match remark(site) {
             Some(what) => what,
             None => continue,
         };
-        let line = remarks.next().unwrap_or(&"");
         let start = format!("site={number} {what} output=");
+        let line = remarks.next().copied().unwrap_or_default();
+        let name = line
+            .strip_prefix(start.as_bytes())
+            .ok_or_else(|| format!("no line {start}"))?;
+        let output = &site.files.output;
         hold(
-            line.starts_with(&start),
-            &format!("{start} is not where it should be"),
+            shows(name, &output.name),
+            "a name is not shown as it should be",
         )?;
         coverage.met(match &what[..] {
             "summed=yes bad=0" => "too long an input said",
@@ -127,14 +132,21 @@ fn remarks_hold(remarks: &[&str], sites: &[Site], coverage: &mut Coverage) -> Re
             what if what.starts_with("summed=yes bad=") => "bad line said",
             _ => "differs further on",
         });
-        if let Some(style) = site.files.output.style {
+        if let Some(style) = output.style {
             coverage.met(names::SHOWN[style]);
         }
     }
-    match remarks.next() {
-        None => Ok(()),
-        Some(line) => Err(format!("too many lines: {line:?}")),
-    }
+    hold(remarks.next().is_none(), "a line is too many")
+}
+
+/// Control bytes are shown as `?`, and no more than the first 4,096 bytes are shown.
+fn shows(shown: &[u8], name: &[u8]) -> bool {
+    let mut both = shown.iter().zip(name);
+    shown.len() == name.len().min(4_096)
+        && both.all(|(&shown, &byte)| match byte {
+            0..=31 | 127 => shown == b'?',
+            _ => shown == byte,
+        })
 }
 
 /// What the sheet must say about a site, if anything.

@@ -1,7 +1,10 @@
 //! Names of files, plain ones and such as a sheet could stumble over.
 
 use crate::random::Random;
-use crate::sheet::LONGEST_NAME;
+
+/// The longest name that a file can be read by. The sheet has its own number for it, so that a wrong
+/// one shows.
+const LONGEST: usize = 4_095;
 
 /// The styles of names in the order of `STYLES`, as met where a file was read by one.
 pub const READ: &[&str] = &[
@@ -39,7 +42,7 @@ const STYLES: [fn(usize) -> Vec<u8>; 9] = [
     |number| [&plain(number)[..], &bytes(128..=255)].concat(),
     |number| format!("--{number}").into_bytes(),
     |number| padded("x", plain(number), 255),
-    |number| padded("./", plain(number), LONGEST_NAME),
+    |number| padded("./", plain(number), LONGEST),
 ];
 
 /// A name that a file can have, and its style.
@@ -50,13 +53,13 @@ pub fn draw(number: usize, random: &mut Random) -> (Vec<u8>, usize) {
 
 /// One byte longer than a name may be; shorter, it would name the file of that number.
 pub fn too_long_by_one(number: usize) -> Vec<u8> {
-    padded("./", plain(number), LONGEST_NAME + 1)
+    padded("./", plain(number), LONGEST + 1)
 }
 
 /// More bytes than a line shows, none of them 0, which would end the word.
 pub fn far_too_long(random: &mut Random) -> Vec<u8> {
     let most = random.pick(&[1, 2, 300, 15_000]);
-    let length = LONGEST_NAME + 2 + random.below(most);
+    let length = LONGEST + 2 + random.below(most);
     (0..length).map(|_| random.between(1, 255) as u8).collect()
 }
 
