@@ -49,12 +49,14 @@ pub fn first_fault(
         fs::create_dir(&folder).map_err(|error| about(&folder, error))?;
         // A name of the greatest length finds its file only from inside the folder.
         env::set_current_dir(&folder)?;
-        let fault = Week::new(seed)?.fault(&keep, &program, &mut coverage)?;
+        let week = Week::new(seed);
+        let fault = week.and_then(|week| week.fault(&keep, &program, &mut coverage));
         env::set_current_dir(&keep)?;
-        if let Some(what) = fault {
+        if let Ok(Some(what)) = fault {
             return Ok((coverage, Some(Fault { seed, what })));
         }
         fs::remove_dir_all(&folder)?;
+        fault?;
     }
     Ok((coverage, None))
 }
