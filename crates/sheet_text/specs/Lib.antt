@@ -1,0 +1,2 @@
+-- Sheet: the text of a share sheet.
+pub mod Sheet

@@ -1,0 +1,1 @@
+-- Laws of sites, weeks and the sheet's text.
