@@ -1,1 +1,4 @@
--- Laws of sites, weeks and the sheet's text.
+-- Laws of sites and weeks.
+pub mod CompareLaws
+pub mod SiteLaws
+pub mod WeekLaws

@@ -65,7 +65,13 @@ impl Week {
     }
 
     // One site more. The buffers begin with what was read of its files, so many bytes; each is longer than any file that counts.
-    pub fn with_site(self, events: &[u8], events_read: usize, output: &[u8], output_read: usize) -> Judged
+    pub fn with_site(
+        self,
+        events: &[u8],
+        events_read: usize,
+        output: &[u8],
+        output_read: usize,
+    ) -> Judged
         requires { ⌜ Sound self ⌝ }
         requires { ⌜ self .sites < siteLimit ⌝ }
         requires { ⌜ inputLimit < length (now events) ⌝ }
