@@ -2,6 +2,7 @@
 use borrow.Author.Needs.{needs}
 use mathlib.Core.Path.{sym, _∙_}
 use lib.Seq.{length-take-le}
+use denote.Ref.{now}
 use Rattle.week.proofs.WeekLaws.{judged-as-read}
 use Rattle.week.proofs.Week.with_site.Statement.{statement}
 use Rattle.week.proofs.Week.with_site.Tie as tie
@@ -16,7 +17,11 @@ judged-requires : tie.Need-judged-requires
 judged-requires c κs = search needs
 
 returns : tie.Need-returns
-returns c sites e o w re ro = let pre = c .before .before .before .before .before .pre in c .judged .ensures sites w ∙ judged-as-read sites e o _ _ _ _ (pre .1 .1 .0) (pre .1 .1 .1 .0) re ro
+returns c sites e o w re ro =
+    let start = c .before .before .before .before .before in
+    let pre = start .pre in
+    c .judged .ensures sites w
+    ∙ judged-as-read sites e o (now (start .args .events)) (now (start .args .output)) (start .args .events-read) (start .args .output-read) (pre .1 .1 .0) (pre .1 .1 .1 .0) re ro
 
 pub with-site-spec : {M : Type 1} → statement M
 with-site-spec =
