@@ -2,6 +2,7 @@
 --     put-append      two texts, one behind the other
 --     put-behind      the same, of pages that calls left behind
 --     put-keeps       the buffer's length
+--     past-within     the place stays within the buffer
 --     byte-fits       one byte where there is room
 --     byte-left-off   one byte where there is none
 --     printed         a text put from the start of a buffer is printed there
@@ -10,11 +11,11 @@ use Prim.Native.Nat.{ℕ, _+_, _<_, _≤_, min}
 use native.Mathlib.Omega.{arith}
 use mathlib.Core.Bool.{Bool, true, false, cond}
 use mathlib.Core.List.{List, [], _∷_, _++_}
-use mathlib.Core.Path.{_≡_, refl, sym, ap, ap₂, _∙_}
+use mathlib.Core.Path.{_≡_, refl, sym, ap, ap₂, _∙_, subst}
 use lib.ListN.{length, take, drop, set, length-append, length-set}
 use lib.Dec.{ltb}
 use lib.Seq.{append-snoc, set-append-seam, take-all, take-nil, drop-nil}
-use borrow.Author.Tests.{lt-ltb, le-ltb}
+use borrow.Author.Tests.{ltb-true, lt-ltb, le-ltb}
 use Rattle.print.specs.Page.{Page, page, putByte, put, Printed, PrintedWhole}
 
 pub put-append : (p : Page) (a b : List ℕ) → put p (a ++ b) ≡ put (put p a) b
@@ -53,6 +54,26 @@ put-keeps p (x ∷ text) = put-keeps (putByte p x) text ∙ byte-keeps p x
 -- a buffer that a call left behind
 pub length-put : (out : List ℕ) (past : ℕ) (before : List ℕ) (at : ℕ) (text : List ℕ) → page out past ≡ put (page before at) text → length out ≡ length before
 length-put out past before at text e = ap (λ (p : Page). length (p .bytes)) e ∙ put-keeps (page before at) text
+
+-- ---- the place
+
+byte-within : (p : Page) (byte : ℕ) → p .past ≤ length (p .bytes) → putByte p byte .past ≤ length (putByte p byte .bytes)
+unfolding putByte
+byte-within p byte h = either (ltb (p .past) (length (p .bytes))) refl
+  where
+    either : (t : Bool) → ltb (p .past) (length (p .bytes)) ≡ t
+        → cond t (page (set (p .bytes) (p .past) byte) (p .past + 1)) p .past ≤ length (cond t (page (set (p .bytes) (p .past) byte) (p .past + 1)) p .bytes)
+    either true e = omega (arith, ltb-true (p .past) (length (p .bytes)) e, length-set (p .bytes) (p .past) byte)
+    either false e = h
+
+put-within : (p : Page) (text : List ℕ) → p .past ≤ length (p .bytes) → put p text .past ≤ length (put p text .bytes)
+unfolding put
+put-within p [] h = h
+put-within p (x ∷ text) h = put-within (putByte p x) text (byte-within p x h)
+
+-- Where a text begins within a buffer, it ends there.
+pub past-within : (out : List ℕ) (past : ℕ) (before : List ℕ) (at : ℕ) (text : List ℕ) → page out past ≡ put (page before at) text → at ≤ length before → past ≤ length out
+past-within out past before at text e h = subst (λ (p : Page). p .past ≤ length (p .bytes)) (sym e) (put-within (page before at) text h)
 
 -- two buffers into which texts are put with the same result
 pub same-length : (out : List ℕ) (past : ℕ) (text before : List ℕ) (at : ℕ) (whole : List ℕ) → put (page out past) text ≡ put (page before at) whole → length out ≡ length before

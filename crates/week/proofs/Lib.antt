@@ -1,4 +1,5 @@
--- Laws of sites and weeks.
+-- Laws of sites and weeks. Theorems has what request 2026-01 asks of them.
 pub mod CompareLaws
 pub mod SiteLaws
 pub mod WeekLaws
+pub mod Theorems

@@ -1,0 +1,71 @@
+-- What request 2026-01 asks of a week of sites.
+--     counted-if-it-follows, follows-if-counted   a site is in the sums if and only if its output is the transcript of its events
+--     left-out-adds-nothing                       any other site adds nothing
+--     longer-is-left-out                          so does one whose output is longer than any transcript
+--     flow-is-that-of-departures, total-is-that-of-departures   the numbers of a week are those of the departures
+--     flows-make-the-total                        and the flows' numbers add up to the total
+--     sums-at-most                                the largest that a number of 64 sites can be
+--     flow-at-most-total                          a flow's are no larger than the total's
+use Prim.Native.Nat.{ℕ, _+_, _*_, _<_, _≤_}
+use native.Mathlib.Omega.{arith}
+use mathlib.Core.Bool.{Bool, true, false, cond}
+use mathlib.Core.List.{List, [], _∷_, _++_}
+use mathlib.Core.Path.{_≡_, refl, sym, ap, _∙_, subst}
+use lib.ListN.{length, getD}
+use Rattle.model.specs.Limits.{flowLimit, sizeLimit}
+use Rattle.play.specs.Transcript.{outputLimit, transcript}
+use Rattle.play.specs.Log.{departuresOf}
+use Rattle.play.proofs.Lengths.{transcript-fits}
+use Rattle.shares.specs.Share.{ofFlow, shareOf, sharesFrom, sharesOf}
+use Rattle.shares.specs.declared.Share.{Share}
+use Rattle.shares.specs.declared.Shares.{Shares}
+use Rattle.shares.proofs.ShareLaws.{flow-share, flow-at-most, total-at-most}
+use Rattle.shares.proofs.Totals.{packetsIn, bytesIn, largestIn, flows-add-up}
+use Rattle.week.specs.Site.{Site, files, follows, adds, isSummed}
+use Rattle.week.specs.Week.{siteLimit, departuresOver, weekOf}
+use Rattle.week.proofs.SiteLaws.{follows-only-when, following, differing}
+use Rattle.week.proofs.WeekLaws.{in-range, few}
+
+module _ (events output : List ℕ) where
+  pub counted-if-it-follows : output ≡ transcript events → (isSummed (files events output) ≡ 1) × (adds (files events output) ≡ departuresOf events)
+  counted-if-it-follows e = let says = following events output e in (says .counts, says .adds-this)
+
+  pub follows-if-counted : isSummed (files events output) ≡ 1 → output ≡ transcript events
+  unfolding isSummed
+  follows-if-counted e = by-test (follows events output) refl e
+    where
+      by-test : (t : Bool) → follows events output ≡ t → cond t 1 0 ≡ 1 → output ≡ transcript events
+      by-test true h k = follows-only-when events output h
+      by-test false h k = absurd (omega (arith, k))
+
+  pub left-out-adds-nothing : (output ≡ transcript events → ⊥) → (isSummed (files events output) ≡ 0) × (adds (files events output) ≡ [])
+  left-out-adds-nothing n = let says = differing events output n in (says .counts, says .adds-this)
+
+  pub longer-is-left-out : outputLimit < length output → (isSummed (files events output) ≡ 0) × (adds (files events output) ≡ [])
+  longer-is-left-out h = left-out-adds-nothing (λ e. omega (arith, ap length e, transcript-fits events))
+
+module _ (sites : List Site) where
+  pub flow-is-that-of-departures : (f : ℕ) (none : Share) → f < flowLimit → getD (weekOf sites .shares .flows) f none ≡ shareOf (ofFlow f (departuresOver sites))
+  unfolding weekOf sharesOf
+  flow-is-that-of-departures f none h = flow-share flowLimit (departuresOver sites) f none h
+
+  pub total-is-that-of-departures : weekOf sites .shares .total ≡ shareOf (departuresOver sites)
+  unfolding weekOf sharesOf
+  total-is-that-of-departures = refl
+
+  pub flows-make-the-total : (packetsIn (weekOf sites .shares .flows) ≡ weekOf sites .shares .total .packets)
+      × (bytesIn (weekOf sites .shares .flows) ≡ weekOf sites .shares .total .bytes)
+      × (largestIn (weekOf sites .shares .flows) ≡ weekOf sites .shares .total .largest)
+  unfolding weekOf
+  flows-make-the-total = flows-add-up (departuresOver sites) (in-range sites)
+
+  pub sums-at-most : length sites ≤ siteLimit → (weekOf sites .shares .total .packets ≤ 262_144) × (weekOf sites .shares .total .bytes ≤ 67_108_864)
+  unfolding weekOf sharesOf
+  sums-at-most h =
+      let total = total-at-most (departuresOver sites) (in-range sites) in
+      (omega (arith, total .0, few sites), omega (arith, total .1, few sites))
+
+  pub flow-at-most-total : (f : ℕ) → (shareOf (ofFlow f (departuresOver sites)) .packets ≤ weekOf sites .shares .total .packets)
+      × (shareOf (ofFlow f (departuresOver sites)) .bytes ≤ weekOf sites .shares .total .bytes)
+  unfolding weekOf sharesOf
+  flow-at-most-total f = flow-at-most f (departuresOver sites)
