@@ -1,1 +1,3 @@
--- Laws of the sheet's text.
+-- Laws of the sheet's text, which serve this crate's functions: SumLaws of the sums, RemarkLaws of names and remarks.
+mod SumLaws
+mod RemarkLaws
