@@ -1,3 +1,6 @@
--- Laws of the sheet's text, which serve this crate's functions: SumLaws of the sums, RemarkLaws of names and remarks.
+-- Laws of the sheet's text. Lengths has how long the sums and a remark can be, and Names that no name makes a remark more than one line. SumLaws and
+-- RemarkLaws serve this crate's functions.
 mod SumLaws
 mod RemarkLaws
+pub mod Lengths
+pub mod Names

@@ -9,7 +9,7 @@ use lib.Dec.{ltb, eqb}
 use lib.Seq.{drop-cons}
 use borrow.Author.Tests.{lt-ltb, le-ltb, eq-eqb, ne-eqb}
 use Rattle.lines.specs.Text.{bytes}
-use Rattle.lines.specs.Written.{decimal, field}
+use Rattle.lines.specs.Written.{field}
 use Rattle.print.specs.Page.{Page, put}
 use Rattle.print.proofs.PageLaws.{put-append, put-behind}
 use Rattle.week.specs.declared.Verdict.{Verdict}

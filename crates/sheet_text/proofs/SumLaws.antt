@@ -1,7 +1,7 @@
 -- The fields of a share, the lines of the flows and the lines below them, put one behind the other, are the sums of a week.
 use Prim.Native.Nat.{ℕ, suc, _+_, _<_, _≤_}
 use native.Mathlib.Numerals.{add-one}
-use mathlib.Core.List.{List, [], _∷_, _++_}
+use mathlib.Core.List.{List, _++_}
 use mathlib.Core.Path.{_≡_, sym, ap, ap₂, _∙_}
 use lib.ListN.{length, getD, drop, drop-of-length-le}
 use lib.Seq.{drop-cons}

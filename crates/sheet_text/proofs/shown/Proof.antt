@@ -5,13 +5,13 @@ use Rattle.sheet_text.proofs.shown.Statement.{statement}
 use Rattle.sheet_text.proofs.shown.Tie as tie
 
 returns : tie.Need-returns
-returns c = control-shown _ (c .if1 .taken)
+returns c = control-shown _ (search needs)
 
 returns-2 : tie.Need-returns-2
-returns-2 c = delete-shown _ (c .before .if1 .left) (c .if2 .taken)
+returns-2 c = delete-shown _ (search needs) (c .if2 .taken)
 
 returns-3 : tie.Need-returns-3
-returns-3 c = other-shown _ (c .before .if1 .left) (c .if2 .left)
+returns-3 c = other-shown _ (search needs) (c .if2 .left)
 
 pub shown-spec : {M : Type 1} → statement M
 shown-spec = tie.close (tie.spec returns returns-2 returns-3)
