@@ -56,6 +56,10 @@ decimal-length = by-digits (λ n. (k : ℕ) → n < 10 ^ suc k → length (decim
     longer n d p h so-far zero l = absurd (omega arith)
     longer n d p h so-far (suc k) l = rw (decimal-and-digit n d p h, length-append) (omega (arith, so-far k (omega arith)))
 
+-- a word and a number of so many digits
+pub field-length : (word : List ℕ) (n k : ℕ) → n < 10 ^ suc k → length (word ++ decimal n) ≤ length word + suc k
+field-length word n k h = omega (arith, length-append word (decimal n), decimal-length n k h)
+
 -- a decimal begins with a byte, which is that of 0 only where the number is 0
 abbrev pub Begins : ℕ → Type 0
 Begins n = (byte : ℕ) × (rest : List ℕ) × (decimal n ≡ byte ∷ rest) × (0 < n → byte ≡ digitByte 0 → ⊥)

@@ -3,6 +3,7 @@
 --     transcript-fits        a buffer of four times the longest input holds every transcript
 --     nothing-left-off       so what `play` puts into such a buffer is the whole transcript
 --     at-most-4096-depart    no input has more departures
+--     bad-line-small         a bad line is a line of the input
 --     log-fits               a log of an eighth of the longest input holds them all
 --     no-departure-left-off  so such a log notes them all
 --     count-within           what is printed lies within the buffer, so that a caller may lend it on
@@ -32,15 +33,17 @@ use Rattle.lines.specs.declared.Event.{Event}
 use Rattle.lines.specs.declared.Event.the-variants.{Flow as FlowLine, Arrive, Send}
 use Rattle.lines.specs.declared.Line.{Line}
 use Rattle.lines.specs.declared.Line.the-variants.{Read, Bad}
-use Rattle.lines.proofs.Decimal.{decimal-length, decimal-begins}
+use Rattle.lines.proofs.Decimal.{field-length, decimal-begins}
 use Rattle.lines.proofs.Lines.{nothing-else-is-read, moves-on}
 use Rattle.print.specs.Page.{Printed, PrintedWhole}
 use Rattle.print.proofs.PageLaws.{printed-whole}
 use Rattle.play.specs.Script.{Script, scriptFrom, scriptOf}
 use Rattle.play.specs.Story.{Report, bad, refused, sent, idle, Replay, Happening, newReplay, answered, numbered, departing, sending, happening, story}
 use Rattle.play.specs.Transcript.{inputLimit, outputLimit, replyText, lineOf, textOf, transcript}
-use Rattle.play.specs.Log.{departuresIn, departuresOf, logOf, logLimit}
-use Rattle.play.proofs.LogLaws.{departures-append, log-length, counts-departures}
+use Rattle.play.specs.Log.{departuresIn, endingIn, departuresOf, endingOf, logOf, logLimit}
+use Rattle.play.specs.declared.Ending.{Ending}
+use Rattle.play.specs.declared.Ending.the-variants.{Whole, BadLine}
+use Rattle.play.proofs.LogLaws.{departures-append, log-length, counts-departures, goes-on}
 use Rattle.play.proofs.PlayLaws.{too-long-reports, short-reports}
 use Rattle.play.proofs.ScriptLaws.{ends, reads, spoils}
 use Rattle.play.proofs.StoryLaws.{text-append, text-of-one}
@@ -50,9 +53,6 @@ use Rattle.play.proofs.StoryLaws.{text-append, text-of-one}
 -- numbers of at most five digits
 abbrev Few : ℕ → Type 0
 Few n = n < 10 ^ 5
-
-field-length : (word : List ℕ) (n k : ℕ) → n < 10 ^ suc k → length (word ++ decimal n) ≤ length word + suc k
-field-length word n k h = omega (arith, length-append word (decimal n), decimal-length n k h)
 
 bad-length : (line : ℕ) → Few line → length (lineOf (bad line)) ≤ 10
 unfolding lineOf
@@ -244,10 +244,16 @@ event-pays r line (Send count) R l f = send-pays r count R f
 
 -- ---- the whole replay
 
--- What is reported from a place on is short, and its departures with those before it are few.
+-- the line that an ending tells
+abbrev pub lineTold : Ending → ℕ
+lineTold Whole = 0
+lineTold (BadLine line) = line
+
+-- What is reported from a place on is short, its departures with those before it are few, and it ends in a line of the input.
 record Bound (input : List ℕ) (at : ℕ) (r : Replay) (l : List Report) : Type 0 where
   pub printed : length (textOf l) ≤ 48 * waiting (r .scheduler) + 3 * (length input - at) + 10
   pub departing : 16 * (r .departed + length (departuresIn l)) ≤ length input
+  pub ending : lineTold (endingIn l) ≤ length input
 
 abbrev Bounded : ℕ → List ℕ → ℕ → ℕ → Replay → Type 0
 Bounded most input at line r = Bound input at r (story r line (scriptFrom most input at))
@@ -255,8 +261,8 @@ Bounded most input at line r = Bound input at r (story r line (scriptFrom most i
 story-bound : (most : ℕ) (input : List ℕ) (at line : ℕ) (r : Replay) → length input ≤ inputLimit → at ≤ length input → line ≤ at + 1 → Rules (r .scheduler)
     → 16 * (r .departed + waiting (r .scheduler)) ≤ at
     → Bounded most input at line r
-unfolding scriptFrom story textOf departuresIn
-story-bound zero input at line r short place l R c = record { printed = omega arith; departing = omega arith }
+unfolding scriptFrom story textOf departuresIn endingIn
+story-bound zero input at line r short place l R c = record { printed = omega arith; departing = omega arith; ending = omega arith }
 story-bound (suc most) input at line r short place l R c =
     by-place (decLt at (length input)) (λ event next further within P j. story-bound most input next (line + 1) (happening r line event .after) short within (omega arith) (P .keeps) j)
   where
@@ -289,14 +295,15 @@ story-bound (suc most) input at line r short place l R c =
                 counts-departures r line event,
                 B .departing,
               );
+          ending = omega (arith, ap lineTold (goes-on r line event rest), B .ending);
         })
     by-line within again Bad e =
         known (spoils input most at within e)
-        (record { printed = omega (arith, ap length (text-of-one (bad line)), bad-length line (omega arith)); departing = omega arith })
+        (record { printed = omega (arith, ap length (text-of-one (bad line)), bad-length line (omega arith)); departing = omega arith; ending = omega arith })
 
     by-place : Dec (at < length input) → Again → Bounded (suc most) input at line r
     by-place (yes within) again = by-line within again (lineAt input at) refl
-    by-place (no past) again = known (ends input (suc most) at (omega arith)) (record { printed = omega arith; departing = omega arith })
+    by-place (no past) again = known (ends input (suc most) at (omega arith)) (record { printed = omega arith; departing = omega arith; ending = omega arith })
 
 whole-bound : (input : List ℕ) → length input ≤ inputLimit → Bound input 0 newReplay (story newReplay 1 (scriptOf input))
 unfolding newReplay newScheduler scriptOf
@@ -317,6 +324,14 @@ few-depart input =
     elim (decLt inputLimit (length input)) [
       | yes long ↦ omega (arith, ap (λ (l : List Report). length (departuresIn l)) (too-long-reports input long))
       | no short ↦ omega (arith, ap (λ (l : List Report). length (departuresIn l)) (short-reports input (omega arith)), whole-bound input (omega arith) .departing)
+    ]
+
+pub bad-line-small : (input : List ℕ) → lineTold (endingOf input) ≤ inputLimit
+unfolding endingOf endingIn newReplay
+bad-line-small input =
+    elim (decLt inputLimit (length input)) [
+      | yes long ↦ omega (arith, ap (λ (l : List Report). lineTold (endingIn l)) (too-long-reports input long))
+      | no short ↦ omega (arith, ap (λ (l : List Report). lineTold (endingIn l)) (short-reports input (omega arith)), whole-bound input (omega arith) .ending)
     ]
 
 -- ---- the theorems

@@ -128,7 +128,7 @@ module _ {s : Shares} {log : List ℕ} {flows : List Share} {total : Share} {at 
   few : length sofar ≤ 2 ^ 32
   few = omega (arith, length-append (r .before) (counted .done), ap length (counted .split), length-append (counted .done) (counted .rest), r .few)
 
-  of-total : (shareOf sofar .packets ≡ length sofar) × (shareOf sofar .bytes ≤ sizeLimit * length sofar)
+  of-total : (shareOf sofar .packets ≡ length sofar) × (shareOf sofar .bytes ≤ sizeLimit * length sofar) × (shareOf sofar .largest ≤ sizeLimit)
   of-total = total-at-most sofar (in-range-append (r .before) (counted .done) (r .before-in-range) (parts .0))
 
   of-flow : getD flows (getD log at 0) none ≡ shareOf (ofFlow (here .d .flow) sofar)

@@ -140,10 +140,25 @@ unfolding bytesOf InRange
 bytes-at-most [] h = omega arith
 bytes-at-most (d ∷ l) h = omega (arith, bytes-at-most l (h .2), h .1)
 
-pub flow-at-most : (f : ℕ) (l : List Sent) → (shareOf (ofFlow f l) .packets ≤ shareOf l .packets) × (shareOf (ofFlow f l) .bytes ≤ shareOf l .bytes)
-unfolding shareOf
-flow-at-most f l = (few-of-flow f l, bytes-of-flow f l)
+largest-of-flow : (f : ℕ) (l : List Sent) → largestOf (ofFlow f l) ≤ largestOf l
+unfolding ofFlow largestOf
+largest-of-flow f [] = omega arith
+largest-of-flow f (d ∷ l) = either (eqb (d .flow) f) (largest-of-flow f l)
+  where
+    either : (t : Bool) → largestOf (ofFlow f l) ≤ largestOf l → largestOf (cond t (d ∷ ofFlow f l) (ofFlow f l)) ≤ max (d .size) (largestOf l)
+    either true h = omega arith
+    either false h = omega arith
 
-pub total-at-most : (l : List Sent) → InRange l → (shareOf l .packets ≡ length l) × (shareOf l .bytes ≤ sizeLimit * length l)
+largest-at-most : (l : List Sent) → InRange l → largestOf l ≤ sizeLimit
+unfolding largestOf InRange
+largest-at-most [] h = omega arith
+largest-at-most (d ∷ l) h = omega (arith, largest-at-most l (h .2), h .1)
+
+pub flow-at-most : (f : ℕ) (l : List Sent)
+    → (shareOf (ofFlow f l) .packets ≤ shareOf l .packets) × (shareOf (ofFlow f l) .bytes ≤ shareOf l .bytes) × (shareOf (ofFlow f l) .largest ≤ shareOf l .largest)
 unfolding shareOf
-total-at-most l h = (refl, bytes-at-most l h)
+flow-at-most f l = (few-of-flow f l, bytes-of-flow f l, largest-of-flow f l)
+
+pub total-at-most : (l : List Sent) → InRange l → (shareOf l .packets ≡ length l) × (shareOf l .bytes ≤ sizeLimit * length l) × (shareOf l .largest ≤ sizeLimit)
+unfolding shareOf
+total-at-most l h = (refl, bytes-at-most l h, largest-at-most l h)

@@ -9,7 +9,7 @@ use lib.ListN.{length, length-append, length-map}
 use Rattle.model.specs.Limits.{flowLimit}
 use Rattle.lines.specs.Text.{bytes}
 use Rattle.lines.specs.Written.{decimal, field}
-use Rattle.lines.proofs.Decimal.{decimal-length}
+use Rattle.lines.proofs.Decimal.{field-length}
 use Rattle.shares.specs.declared.Share.{Share}
 use Rattle.week.specs.declared.Verdict.{Verdict}
 use Rattle.week.specs.declared.Verdict.the-variants.{Follows, Ended, Differs, EventsUnread, OutputUnread}
@@ -34,9 +34,6 @@ LineFits (Ended line) = line < 2 ^ 64
 LineFits (Differs line) = line < 2 ^ 64
 LineFits EventsUnread = Unit {0}
 LineFits OutputUnread = Unit {0}
-
-field-length : (word : List ℕ) (n k : ℕ) → n < 10 ^ suc k → length (word ++ decimal n) ≤ length word + suc k
-field-length word n k h = omega (arith, length-append word (decimal n), decimal-length n k h)
 
 -- a word and a number of 64 bits
 wide-length : (word : List ℕ) (n : ℕ) → n < 2 ^ 64 → length (word ++ decimal n) ≤ length word + 20
