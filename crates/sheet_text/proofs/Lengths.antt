@@ -14,6 +14,7 @@ use Rattle.shares.specs.declared.Share.{Share}
 use Rattle.week.specs.declared.Verdict.{Verdict}
 use Rattle.week.specs.declared.Verdict.the-variants.{Follows, Ended, Differs, EventsUnread, OutputUnread}
 use Rattle.week.specs.declared.Week.{Week}
+use Rattle.week.proofs.Theorems.{lineOfVerdict}
 use Rattle.sheet_text.specs.Sheet.{shareText, flowLines, sumsText, shown, nameText, remarkText, sumsLimit, remarkLimit}
 
 -- ---- numbers of 64 bits
@@ -26,14 +27,6 @@ pub record Fits64 (s : Share) : Type 0 where
 unfoldable pub AllFit64 : List Share → Type 0
 AllFit64 [] = Unit {0}
 AllFit64 (s ∷ more) = Fits64 s × AllFit64 more
-
--- the line that a verdict tells is a number of 64 bits
-abbrev pub LineFits : Verdict → Type 0
-LineFits Follows = Unit {0}
-LineFits (Ended line) = line < 2 ^ 64
-LineFits (Differs line) = line < 2 ^ 64
-LineFits EventsUnread = Unit {0}
-LineFits OutputUnread = Unit {0}
 
 -- a word and a number of 64 bits
 wide-length : (word : List ℕ) (n : ℕ) → n < 2 ^ 64 → length (word ++ decimal n) ≤ length word + 20
@@ -113,7 +106,7 @@ said-length site said name h short l =
       name-length name,
     )
 
-pub remark-fits : (site : ℕ) (v : Verdict) (name : List ℕ) → site < 2 ^ 64 → LineFits v → length name ≤ 4_096 → length (remarkText site v name) ≤ remarkLimit
+pub remark-fits : (site : ℕ) (v : Verdict) (name : List ℕ) → site < 2 ^ 64 → lineOfVerdict v < 2 ^ 64 → length name ≤ 4_096 → length (remarkText site v name) ≤ remarkLimit
 unfolding remarkText
 remark-fits site Follows name h fits l = omega arith
 remark-fits site (Ended line) name h fits l = said-length site (field " summed=yes bad=" line) name h (omega (arith, wide-length (bytes " summed=yes bad=") line fits)) l
