@@ -17,13 +17,12 @@ use Rattle.model.specs.declared.Answer.{Answer}
 use Rattle.model.specs.declared.Answer.the-variants.{Done, Refused}
 use Rattle.lines.specs.declared.Event.{Event}
 use Rattle.lines.specs.declared.Event.the-variants.{Flow, Arrive, Send}
-use Rattle.print.specs.Page.{Page, page, put}
+use Rattle.print.specs.Page.{Page, put}
 use Rattle.print.proofs.PageLaws.{put-append, length-put}
 use Rattle.play.specs.Story.{Report, bad, refused, sent, idle, Replay, refusal, answered, numbered, departing, sending, happening}
 use Rattle.play.specs.Transcript.{lineOf, textOf}
 use Rattle.play.specs.Log.{departuresIn, endingIn, logOf}
 use Rattle.play.specs.Course.{Desk, desk, reported}
-use Rattle.play.specs.declared.Ending.{Ending}
 use Rattle.play.proofs.StoryLaws.{text-append, text-of-one}
 
 -- ---- reports one behind the other

@@ -21,7 +21,7 @@ use Rattle.order.proofs.StateLaws.{seen-as}
 use Rattle.play.specs.Course.{replayOf, asked, Desk, desk, reported, Goes, Tells}
 use Rattle.play.specs.Log.{departuresIn, endingIn, departuresOf, endingOf, logOf}
 use Rattle.print.specs.Page.{page, put}
-use Rattle.play.specs.Script.{Script, scriptFrom, scriptOf}
+use Rattle.play.specs.Script.{scriptFrom, scriptOf}
 use Rattle.play.specs.Story.{Report, bad, Replay, Happening, newReplay, happening, story}
 use Rattle.play.specs.Transcript.{inputLimit, lineOf, textOf, reports, transcript}
 use Rattle.play.specs.declared.Course.{Course}

@@ -1,6 +1,6 @@
 -- Every departure of a replay is of a flow below 32 and of at most 256 bytes.
 --     departures-in-range   so a log of it can be read
-use Prim.Native.Nat.{ℕ, zero, suc, _+_, _≤_}
+use Prim.Native.Nat.{ℕ, zero, suc, _+_}
 use native.Mathlib.Decide.{decLt}
 use native.Mathlib.Omega.{arith}
 use mathlib.Core.List.{List, [], _∷_, _++_}
@@ -17,7 +17,7 @@ use Rattle.model.proofs.Told.{told-in-range}
 use Rattle.lines.specs.declared.Event.{Event}
 use Rattle.lines.specs.declared.Event.the-variants.{Flow as FlowLine, Arrive, Send}
 use Rattle.play.specs.Script.{Script, ended, spoiled, _then_, scriptOf}
-use Rattle.play.specs.Story.{Report, bad, Replay, newReplay, answered, departing, sending, happening, story}
+use Rattle.play.specs.Story.{Report, Replay, newReplay, answered, departing, sending, happening, story}
 use Rattle.play.specs.Transcript.{inputLimit}
 use Rattle.play.specs.Log.{departuresIn, departuresOf, InRange}
 use Rattle.play.proofs.LogLaws.{departures-append, departures-of-refusal, departures-of-sending}

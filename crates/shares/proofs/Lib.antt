@@ -2,3 +2,4 @@
 pub mod ShareLaws
 pub mod Totals
 mod ReadLaws
+pub mod Settled

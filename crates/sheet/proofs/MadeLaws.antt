@@ -1,13 +1,11 @@
 -- A sheet, site by site.
 --     unread-events, unread-output, read-files   what is made of a site's files
 --     making-begin, making-on, making-end        the sheet of the sites so far
-use Prim.Native.Nat.{ℕ, _+_, _*_, _<_, _≤_}
+use Prim.Native.Nat.{ℕ, _+_, _*_, _≤_}
 use native.Mathlib.Omega.{arith}
-use native.Mathlib.Nat.{mul-le-mul}
 use mathlib.Core.List.{List, [], _∷_, _++_}
-use mathlib.Core.Path.{_≡_, refl, sym, ap, ap₂, _∙_, subst}
+use mathlib.Core.Path.{_≡_, refl, sym, ap, ap₂, _∙_}
 use lib.ListN.{length, take, length-append}
-use lib.Seq.{length-take-le, take-all}
 use Rattle.print.specs.Page.{Page, page, put}
 use Rattle.print.proofs.PageLaws.{put-append, printed, printed-whole}
 use Rattle.week.specs.Site.{Site, eventsUnread, outputUnread, files, verdictOf}
@@ -17,12 +15,12 @@ use Rattle.week.specs.declared.Judged.{Judged}
 use Rattle.week.specs.declared.Verdict.{Verdict}
 use Rattle.week.specs.declared.Verdict.the-variants.{EventsUnread, OutputUnread}
 use Rattle.week.specs.declared.Week.{Week}
+use Rattle.week.proofs.Settled.{read-whole}
 use Rattle.week.proofs.WeekLaws.{sites-are}
 use Rattle.sheet_text.specs.Sheet.{remarkText, Named, sitesOf, remarksAfter, remarkLimit}
 use Rattle.sheet_text.proofs.SheetLaws.{sites-snoc, sites-length, remarks-snoc}
 use Rattle.sheet_text.proofs.Theorems.{ShortNames, remarks-fit}
 use Rattle.sheet.specs.Made.{JudgesASite, RemarksASite, MakesASheet}
-use Rattle.sheet.specs.declared.Made.{Made}
 
 -- ---- one site's files
 
@@ -45,12 +43,8 @@ pub read-files : {w : Week} {r : Judged} (events output : List ℕ) (n m : ℕ) 
 read-files events output n m h k j =
     record {
       site = files (take n events) (take m output);
-      judged = λ sites e. j sites (take n events) (take m output) e (whole events n h) (whole output m k);
+      judged = λ sites e. j sites (take n events) (take m output) e (read-whole events n h) (read-whole output m k);
     }
-  where
-    -- so much of a buffer as was read is a file that it holds whole
-    whole : (buffer : List ℕ) (i : ℕ) → i ≤ length buffer → ReadOf (take i buffer) buffer i
-    whole buffer i l = sym (take-all (length buffer) (take i buffer) (omega (arith, length-take-le i buffer l)))
 
 -- ---- all sites
 

@@ -2,7 +2,7 @@
 --     week-sums-fit          the sums of any 64 sites fit their buffer
 --     remarks-fit            and so do the remarks on them, whose names have at most 4,096 bytes
 --     written-is-the-sheet   what a program writes that has put both into buffers is the sheet
-use Prim.Native.Nat.{ℕ, zero, suc, _+_, _*_, _^_, _<_, _≤_}
+use Prim.Native.Nat.{ℕ, zero, suc, _+_, _*_, _≤_}
 use native.Mathlib.Omega.{arith}
 use mathlib.Core.List.{List, [], _∷_, _++_}
 use mathlib.Core.Path.{_≡_, ap₂}
@@ -14,7 +14,7 @@ use Rattle.play.proofs.Theorems.{stands-at-the-start}
 use Rattle.shares.specs.Share.{ofFlow, shareOf, sharesFrom, sharesOf}
 use Rattle.shares.proofs.ShareLaws.{flows-length}
 use Rattle.week.specs.Site.{Site, verdictOf}
-use Rattle.week.specs.Week.{siteLimit, departuresOver, summedAmong, weekOf}
+use Rattle.week.specs.Week.{siteLimit, departuresOver, weekOf}
 use Rattle.week.proofs.Theorems.{sums-at-most, flow-at-most-total, line-at-most}
 use Rattle.week.proofs.WeekLaws.{summed-at-most}
 use Rattle.sheet_text.specs.Sheet.{sumsText, remarkText, Named, sitesOf, remarksAfter, sheetText, sumsLimit, remarkLimit}

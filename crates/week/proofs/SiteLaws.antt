@@ -2,11 +2,11 @@
 --     follows-when, follows-only-when   `follows` finds out whether an output is the transcript of its events
 --     following, differing              what is said of a site, and what it adds, in each case
 --     as-read                           a site of which so much is read that more makes no difference
-use Prim.Native.Nat.{ℕ, _<_, _≤_}
+use Prim.Native.Nat.{ℕ, _<_}
 use native.Mathlib.Omega.{arith}
-use mathlib.Core.Bool.{Bool, true, false, cond, true≢false}
+use mathlib.Core.Bool.{Bool, true, false, cond}
 use mathlib.Core.List.{List, []}
-use mathlib.Core.Path.{_≡_, refl, sym, ap, ap₂, _∙_, subst}
+use mathlib.Core.Path.{_≡_, refl, ap, ap₂, _∙_}
 use lib.ListN.{length, take}
 use Rattle.model.specs.declared.Sent.{Sent}
 use Rattle.play.specs.Story.{Report}

@@ -3,17 +3,16 @@
 --     in-range, few                   the departures of a week are in range and few
 --     new-week, unread-week, followed-week, differing-week     what each call gives
 --     sound-after                     a week stays sound
-use Prim.Native.Nat.{ℕ, suc, _+_, _*_, _^_, _<_, _≤_}
+use Prim.Native.Nat.{ℕ, suc, _+_, _*_, _<_, _≤_}
 use native.Mathlib.Omega.{arith}
 use mathlib.Core.Bool.{Bool, true, false, cond}
 use mathlib.Core.List.{List, [], _∷_, _++_, append-nil, append-assoc}
-use mathlib.Core.Path.{_≡_, refl, sym, ap, ap₂, _∙_, subst}
+use mathlib.Core.Path.{_≡_, refl, sym, ap, ap₂, _∙_}
 use lib.ListN.{length, take, length-append}
 use Rattle.model.specs.declared.Sent.{Sent}
 use Rattle.play.specs.Transcript.{inputLimit, outputLimit, transcript}
 use Rattle.play.specs.Log.{departuresOf, endingOf, logOf, logLimit, InRange}
 use Rattle.play.specs.Course.{Tells}
-use Rattle.play.specs.declared.Ending.{Ending}
 use Rattle.play.specs.declared.Told.{Told}
 use Rattle.play.proofs.Lengths.{at-most-4096-depart, nothing-left-off, no-departure-left-off, count-within}
 use Rattle.play.proofs.Ranges.{in-range-append, departures-in-range}
@@ -21,7 +20,7 @@ use Rattle.play.proofs.Theorems.{stands-at-the-start, writes-the-transcript}
 use Rattle.shares.specs.Share.{sharesOf}
 use Rattle.shares.specs.Reading.{Readable}
 use Rattle.shares.specs.declared.Shares.{Shares}
-use Rattle.week.specs.Site.{Site, eventsUnread, outputUnread, files, follows, firstDifference, followed, verdictOf, adds, isSummed}
+use Rattle.week.specs.Site.{Site, eventsUnread, outputUnread, files, follows, firstDifference, followed, adds, isSummed}
 use Rattle.week.specs.Week.{siteLimit, departuresOver, summedAmong, weekOf}
 use Rattle.week.specs.Reading.{Sound, ReadOf, judgedAs}
 use Rattle.week.specs.declared.Judged.{Judged}

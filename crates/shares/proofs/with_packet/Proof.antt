@@ -1,7 +1,6 @@
 -- `shares::with_packet` meets its contract: it takes the larger of two sizes.
 use borrow.Author.Needs.{needs}
 use mathlib.Core.Logic.{⊎-elim}
-use mathlib.Core.Path.{_∙_}
 use native.Mathlib.Omega.{arith}
 use Rattle.shares.proofs.ShareLaws.{with-larger}
 use Rattle.shares.proofs.with_packet.Statement.{statement}

@@ -1,5 +1,4 @@
 -- `shares::Shares::new` meets its contract: without departures every share is nothing.
-use borrow.Author.Needs.{needs}
 use Rattle.shares.proofs.ReadLaws.{nothing-sent}
 use Rattle.shares.proofs.Shares.new.Statement.{statement}
 use Rattle.shares.proofs.Shares.new.Tie as tie
