@@ -1,6 +1,6 @@
 // The share sheet: names of files, event lines and the replay's output in pairs, one pair for each site. Prints the sums over the sites whose output
 // follows from their events, and a line for each site that is left out or ended in a bad line.
-ghost use Prim.Native.Nat.{_*_, _<_, _≤_};
+ghost use Prim.Native.Nat.{_+_, _*_, _<_, _≤_};
 ghost use mathlib.Core.Path.{_≡_};
 ghost use lib.ListN.{length};
 ghost use Rattle.intake.specs.Intake.{Within};
@@ -63,10 +63,9 @@ fn usage() {
 fn sheet(sites: usize)
     requires { ⌜ sites ≤ siteLimit ⌝ }
 {
-    let mut remarks = [0u8; REMARKS];
-    // each one byte longer than what counts, to find a file that is longer
-    let mut events = [0u8; INPUT_LIMIT + 1];
-    let mut output = [0u8; OUTPUT_LIMIT + 1];
+    let mut remarks = remarks_buffer();
+    let mut events = events_buffer();
+    let mut output = output_buffer();
     let made = judged_all(sites, &mut remarks, &mut events, &mut output);
     let week = made.week;
     let past = made.past;
@@ -74,6 +73,26 @@ fn sheet(sites: usize)
     let written = sheet_text::sums(&mut sums, week);
     io::write_all(STDOUT_FILENO, &sums[..written]);
     io::write_all(STDOUT_FILENO, &remarks[..past]);
+}
+
+// Zeros for the remarks and for the two files of a site; these one byte longer than what counts, to find a file that is longer. The contracts give the
+// lengths, which no caller's proof then counts out.
+fn remarks_buffer() -> [u8; REMARKS]
+    ensures { λ r. ⌜ siteLimit * remarkLimit ≡ length r ⌝ }
+{
+    [0; REMARKS]
+}
+
+fn events_buffer() -> [u8; INPUT_LIMIT + 1]
+    ensures { λ r. ⌜ inputLimit + 1 ≡ length r ⌝ }
+{
+    [0; INPUT_LIMIT + 1]
+}
+
+fn output_buffer() -> [u8; OUTPUT_LIMIT + 1]
+    ensures { λ r. ⌜ outputLimit + 1 ≡ length r ⌝ }
+{
+    [0; OUTPUT_LIMIT + 1]
 }
 
 // So many sites, one after the other, with what is remarked of them. Two buffers are lent for their files.

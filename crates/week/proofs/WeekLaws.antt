@@ -14,7 +14,7 @@ use Rattle.play.specs.Transcript.{inputLimit, outputLimit, transcript}
 use Rattle.play.specs.Log.{departuresOf, endingOf, logOf, logLimit, InRange}
 use Rattle.play.specs.Course.{Tells}
 use Rattle.play.specs.declared.Told.{Told}
-use Rattle.play.proofs.Lengths.{at-most-4096-depart, nothing-left-off, no-departure-left-off, count-within}
+use Rattle.play.proofs.Lengths.{at-most-4096-depart, nothing-left-off, no-departure-left-off}
 use Rattle.play.proofs.Ranges.{in-range-append, departures-in-range}
 use Rattle.play.proofs.Theorems.{stands-at-the-start, writes-the-transcript}
 use Rattle.shares.specs.Share.{sharesOf}
@@ -166,12 +166,6 @@ module _ {events out log : List ℕ} {told : Told} {out′ log′ : List ℕ} (t
 
   pub noted-whole : logLimit ≤ length log → take (told .noted) log′ ≡ logOf (departuresOf events)
   noted-whole room = stands-at-the-start (logOf (departuresOf events)) (no-departure-left-off events room (t .noted))
-
-  pub written-within : outputLimit ≤ length out → told .written ≤ length out′
-  written-within room = count-within (nothing-left-off events room (t .printed))
-
-  pub noted-within : logLimit ≤ length log → told .noted ≤ length log′
-  noted-within room = count-within (no-departure-left-off events room (t .noted))
 
 -- the sites in the sums are among the sites
 pub summed-small : {w : Week} → Sound w → w .summed ≤ w .sites

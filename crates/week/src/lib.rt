@@ -5,6 +5,7 @@ ghost use mathlib.Core.Path.{_≡_};
 ghost use lib.ListN.{length};
 ghost use Prim.Native.Nat.{ℕ};
 ghost use Rattle.play.specs.Transcript.{inputLimit, outputLimit};
+ghost use Rattle.play.specs.Log.{logLimit};
 ghost use Rattle.week.specs.Site.{Site, eventsUnread, outputUnread, files, followed as followedBy};
 ghost use Rattle.week.specs.Week.{siteLimit, weekOf};
 ghost use Rattle.week.specs.Reading.{Sound, ReadOf, judgedAs};
@@ -57,10 +58,11 @@ impl Week {
         ensures { λ r. ⌜ ((sites : List Site) → self ≡ weekOf sites → (r ≡ weekOf (sites ++ eventsUnread ∷ [])) × (r ≡ weekOf (sites ++ outputUnread ∷ []))) ⌝ }
     {
         let shares = self.shares;
+        let sites = self.sites + 1;
         Week {
             shares,
             summed: self.summed,
-            sites: self.sites + 1,
+            sites,
         }
     }
 
@@ -89,20 +91,22 @@ impl Week {
         requires { ⌜ self .sites < siteLimit ⌝ }
         ensures { λ r. ⌜ ((sites : List Site) → self ≡ weekOf sites → r ≡ judgedAs sites (files (now (events .entry)) (now (output .entry)))) ⌝ }
     {
-        let mut transcript = [0u8; OUTPUT_LIMIT];
-        let mut log = [0u16; LOG_LIMIT];
+        let mut transcript = transcript_buffer();
+        let mut log = log_buffer();
         let told = play::tell(events, &mut transcript, &mut log);
         let written = told.written;
         let shares = self.shares;
+        let sites = self.sites + 1;
         if check::same(output, &transcript[..written]) {
             let noted = told.noted;
             let more = shares.with(&log[..noted]);
-            let ending = told.ending;
+            let summed = self.summed + 1;
             let week = Week {
                 shares: more,
-                summed: self.summed + 1,
-                sites: self.sites + 1,
+                summed,
+                sites,
             };
+            let ending = told.ending;
             return Judged {
                 week,
                 verdict: followed(ending),
@@ -112,13 +116,26 @@ impl Week {
         let week = Week {
             shares,
             summed: self.summed,
-            sites: self.sites + 1,
+            sites,
         };
         Judged {
             week,
             verdict: Verdict::Differs(line),
         }
     }
+}
+
+// Zeros, as many as a transcript and a log may take; the contracts give the lengths, which no caller's proof then counts out.
+fn transcript_buffer() -> [u8; OUTPUT_LIMIT]
+    ensures { λ r. ⌜ outputLimit ≡ length r ⌝ }
+{
+    [0; OUTPUT_LIMIT]
+}
+
+fn log_buffer() -> [u16; LOG_LIMIT]
+    ensures { λ r. ⌜ logLimit ≡ length r ⌝ }
+{
+    [0; LOG_LIMIT]
 }
 
 fn followed(ending: Ending) -> Verdict

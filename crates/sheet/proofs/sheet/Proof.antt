@@ -7,6 +7,15 @@ use Rattle.print.proofs.PageLaws.{past-within}
 use Rattle.sheet.proofs.sheet.Statement.{statement}
 use Rattle.sheet.proofs.sheet.Tie as tie
 
+remarks-buffer-requires : tie.Need-remarks-buffer-requires
+remarks-buffer-requires c κs = search needs
+
+events-buffer-requires : tie.Need-events-buffer-requires
+events-buffer-requires c κs = search needs
+
+output-buffer-requires : tie.Need-output-buffer-requires
+output-buffer-requires c κs = search needs
+
 slice-aggregate-judged-all : tie.Need-slice-aggregate-judged-all
 slice-aggregate-judged-all c = search needs
 
@@ -17,7 +26,7 @@ slice-aggregate-judged-all-3 : tie.Need-slice-aggregate-judged-all-3
 slice-aggregate-judged-all-3 c = search needs
 
 judged-all-requires : tie.Need-judged-all-requires
-judged-all-requires c κs = (c .before .before .before .pre, (omega arith, (omega arith, omega arith)))
+judged-all-requires c κs = search needs
 
 buffer-requires : tie.Need-buffer-requires
 buffer-requires c κs = search needs
@@ -53,6 +62,9 @@ pub sheet-spec : {M : Type 1} → statement M
 sheet-spec =
     tie.close
     (tie.spec
+    remarks-buffer-requires
+    events-buffer-requires
+    output-buffer-requires
     slice-aggregate-judged-all
     slice-aggregate-judged-all-2
     slice-aggregate-judged-all-3
