@@ -1,9 +1,8 @@
 // A week of sites: each site's output is held to what the replay of its events prints, and the departures of the sites that follow are summed.
-ghost use Prim.Native.Nat.{_<_, _≤_};
+ghost use Prim.Native.Nat.{ℕ, _<_, _≤_};
 ghost use mathlib.Core.List.{List, [], _∷_, _++_};
 ghost use mathlib.Core.Path.{_≡_};
 ghost use lib.ListN.{length};
-ghost use Prim.Native.Nat.{ℕ};
 ghost use Rattle.play.specs.Transcript.{inputLimit, outputLimit};
 ghost use Rattle.play.specs.Log.{logLimit};
 ghost use Rattle.week.specs.Site.{Site, eventsUnread, outputUnread, files, followed as followedBy};
