@@ -1,2 +1,3 @@
--- Laws of what the program makes.
+-- Laws of what the program makes. Theorems has what it writes.
 mod MadeLaws
+pub mod Theorems

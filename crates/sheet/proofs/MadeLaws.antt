@@ -8,15 +8,15 @@ use mathlib.Core.Path.{_≡_, refl, sym, ap, ap₂, _∙_}
 use lib.ListN.{length, take, length-append}
 use Rattle.print.specs.Page.{Page, page, put}
 use Rattle.print.proofs.PageLaws.{put-append, printed, printed-whole}
-use Rattle.week.specs.Site.{Site, eventsUnread, outputUnread, files, verdictOf}
+use Rattle.week.specs.Site.{eventsUnread, outputUnread, files, verdictOf}
 use Rattle.week.specs.Week.{siteLimit, weekOf}
-use Rattle.week.specs.Reading.{Sound, ReadOf, judgedAs}
+use Rattle.week.specs.Reading.{Sound, GivesUnread, GivesSite, judgedAs}
 use Rattle.week.specs.declared.Judged.{Judged}
 use Rattle.week.specs.declared.Verdict.{Verdict}
 use Rattle.week.specs.declared.Verdict.the-variants.{EventsUnread, OutputUnread}
 use Rattle.week.specs.declared.Week.{Week}
 use Rattle.week.proofs.Settled.{read-whole}
-use Rattle.week.proofs.WeekLaws.{sites-are}
+use Rattle.week.proofs.WeekLaws.{sites-are, judged-week, judged-verdict}
 use Rattle.sheet_text.specs.Sheet.{remarkText, Named, sitesOf, remarksAfter, remarkLimit}
 use Rattle.sheet_text.proofs.SheetLaws.{sites-snoc, sites-length, remarks-snoc}
 use Rattle.sheet_text.proofs.Theorems.{ShortNames, remarks-fit}
@@ -24,11 +24,7 @@ use Rattle.sheet.specs.Made.{JudgesASite, RemarksASite, MakesASheet}
 
 -- ---- one site's files
 
--- What a week gives for a site of which a file cannot be read.
-abbrev Unread : Week → Week → Type 0
-Unread w r = (sites : List Site) → w ≡ weekOf sites → (r ≡ weekOf (sites ++ eventsUnread ∷ [])) × (r ≡ weekOf (sites ++ outputUnread ∷ []))
-
-module _ {w r : Week} (u : Unread w r) where
+module _ {w r : Week} (u : GivesUnread w r) where
   pub unread-events : JudgesASite w (record { week = r; verdict = EventsUnread })
   unfolding judgedAs verdictOf
   unread-events = record { site = eventsUnread; judged = λ sites e. ap (λ (x : Week). record { week = x; verdict = EventsUnread }) (u sites e .0) }
@@ -38,8 +34,7 @@ module _ {w r : Week} (u : Unread w r) where
   unread-output = record { site = outputUnread; judged = λ sites e. ap (λ (x : Week). record { week = x; verdict = OutputUnread }) (u sites e .1) }
 
 pub read-files : {w : Week} {r : Judged} (events output : List ℕ) (n m : ℕ) → n ≤ length events → m ≤ length output
-    → ((sites : List Site) (e o : List ℕ) → w ≡ weekOf sites → ReadOf e events n → ReadOf o output m → r ≡ judgedAs sites (files e o))
-    → JudgesASite w r
+    → GivesSite w events n output m r → JudgesASite w r
 read-files events output n m h k j =
     record {
       site = files (take n events) (take m output);
@@ -52,14 +47,6 @@ short-snoc : (week : List Named) (n : Named) → ShortNames week → length (n .
 unfolding ShortNames
 short-snoc [] n s h = (h, tt)
 short-snoc (m ∷ week) n s h = (s .0, short-snoc week n (s .1) h)
-
-judged-week : {r : Judged} (sites : List Site) (s : Site) → r ≡ judgedAs sites s → r .week ≡ weekOf (sites ++ s ∷ [])
-unfolding judgedAs
-judged-week sites s e = ap (λ (x : Judged). x .week) e
-
-judged-verdict : {r : Judged} (sites : List Site) (s : Site) → r ≡ judgedAs sites s → r .verdict ≡ verdictOf s
-unfolding judgedAs
-judged-verdict sites s e = ap (λ (x : Judged). x .verdict) e
 
 -- The sheet of the sites so far, the remarks put behind one another into a buffer.
 pub record Making (before : List ℕ) (site : ℕ) (remarks : List ℕ) (week : Week) (past : ℕ) : Type 0 where

@@ -1,26 +1,17 @@
 -- Each public call's contract settles what it gives: no second outcome meets it.
 use Prim.Native.Nat.{ℕ, _≤_}
 use native.Mathlib.Omega.{arith}
-use mathlib.Core.List.{List, [], _∷_, _++_}
+use mathlib.Core.List.{List, []}
 use mathlib.Core.Path.{_≡_, sym, _∙_}
 use lib.ListN.{length, take}
 use lib.Seq.{length-take-le, take-all}
-use Rattle.week.specs.Site.{Site, eventsUnread, outputUnread, files}
 use Rattle.week.specs.Week.{weekOf}
-use Rattle.week.specs.Reading.{Sound, ReadOf, judgedAs}
+use Rattle.week.specs.Reading.{Sound, ReadOf, GivesUnread, GivesSite}
 use Rattle.week.specs.declared.Judged.{Judged}
 use Rattle.week.specs.declared.Week.{Week}
 
 pub new-settled : {r s : Week} → r ≡ weekOf [] → s ≡ weekOf [] → r ≡ s
 new-settled p q = p ∙ sym q
-
--- what the two calls that take a site promise
-abbrev GivesUnread : Week → Week → Type 0
-GivesUnread w r = (sites : List Site) → w ≡ weekOf sites → (r ≡ weekOf (sites ++ eventsUnread ∷ [])) × (r ≡ weekOf (sites ++ outputUnread ∷ []))
-
-abbrev GivesSite : Week → List ℕ → ℕ → List ℕ → ℕ → Judged → Type 0
-GivesSite w events n output m r =
-    (sites : List Site) (e o : List ℕ) → w ≡ weekOf sites → ReadOf e events n → ReadOf o output m → r ≡ judgedAs sites (files e o)
 
 -- so much of a buffer as was read is a file that it holds whole
 pub read-whole : (buffer : List ℕ) (n : ℕ) → n ≤ length buffer → ReadOf (take n buffer) buffer n

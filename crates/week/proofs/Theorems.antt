@@ -2,6 +2,7 @@
 --     counted-if-it-follows, follows-if-counted   a site is in the sums if and only if its output is the transcript of its events
 --     left-out-adds-nothing                       any other site adds nothing
 --     longer-is-left-out                          so does one whose output is longer than any transcript
+--     unread-takes, site-takes, run-is-the-week   over any run of the calls the week is that of the sites
 --     flow-is-that-of-departures, total-is-that-of-departures   the numbers of a week are those of the departures
 --     flows-make-the-total                        and the flows' numbers add up to the total
 --     sums-at-most                                the largest that a number of 64 sites can be
@@ -26,10 +27,14 @@ use Rattle.shares.proofs.ShareLaws.{flow-share, flow-at-most, total-at-most}
 use Rattle.shares.proofs.Totals.{packetsIn, bytesIn, largestIn, flows-add-up}
 use Rattle.week.specs.Site.{Site, eventsUnread, outputUnread, files, follows, common, lineFeeds, firstDifference, followed, verdictOf, adds, isSummed}
 use Rattle.week.specs.Week.{siteLimit, departuresOver, weekOf}
+use Rattle.week.specs.Runs.{Takes, Run, new, one-more}
 use Rattle.week.specs.declared.Verdict.{Verdict}
 use Rattle.week.specs.declared.Verdict.the-variants.{Follows, Ended, Differs, EventsUnread, OutputUnread}
 use Rattle.week.proofs.SiteLaws.{follows-only-when, following, differing}
-use Rattle.week.proofs.WeekLaws.{in-range, few}
+use Rattle.week.specs.Reading.{ReadOf, GivesUnread, GivesSite}
+use Rattle.week.specs.declared.Judged.{Judged}
+use Rattle.week.specs.declared.Week.{Week}
+use Rattle.week.proofs.WeekLaws.{in-range, few, judged-week}
 
 module _ (events output : List ℕ) where
   pub counted-if-it-follows : output ≡ transcript events → (isSummed (files events output) ≡ 1) × (adds (files events output) ≡ departuresOf events)
@@ -48,6 +53,18 @@ module _ (events output : List ℕ) where
 
   pub longer-is-left-out : outputLimit < length output → (isSummed (files events output) ≡ 0) × (adds (files events output) ≡ [])
   longer-is-left-out h = left-out-adds-nothing (λ e. omega (arith, ap length e, transcript-fits events))
+
+-- What the calls promise is such a step, and over any run of them the week is that of the sites.
+pub unread-takes : {w r : Week} → GivesUnread w r → Takes eventsUnread w r × Takes outputUnread w r
+unread-takes g = (λ sites e. g sites e .0, λ sites e. g sites e .1)
+
+pub site-takes : {w : Week} {r : Judged} (buffer : List ℕ) (n : ℕ) (space : List ℕ) (m : ℕ) (events output : List ℕ)
+    → GivesSite w buffer n space m r → ReadOf events buffer n → ReadOf output space m → Takes (files events output) w (r .week)
+site-takes buffer n space m events output g h k sites e = judged-week sites (files events output) (g sites events output e h k)
+
+pub run-is-the-week : {sites : List Site} {w : Week} → Run sites w → w ≡ weekOf sites
+run-is-the-week (new e) = e
+run-is-the-week (one-more site r takes) = takes _ (run-is-the-week r)
 
 module _ (sites : List Site) where
   pub flow-is-that-of-departures : (f : ℕ) (none : Share) → f < flowLimit → getD (weekOf sites .shares .flows) f none ≡ shareOf (ofFlow f (departuresOver sites))

@@ -20,7 +20,7 @@ use Rattle.play.proofs.Theorems.{stands-at-the-start, writes-the-transcript}
 use Rattle.shares.specs.Share.{sharesOf}
 use Rattle.shares.specs.Reading.{Readable}
 use Rattle.shares.specs.declared.Shares.{Shares}
-use Rattle.week.specs.Site.{Site, eventsUnread, outputUnread, files, follows, firstDifference, followed, adds, isSummed}
+use Rattle.week.specs.Site.{Site, eventsUnread, outputUnread, files, follows, firstDifference, followed, verdictOf, adds, isSummed}
 use Rattle.week.specs.Week.{siteLimit, departuresOver, summedAmong, weekOf}
 use Rattle.week.specs.Reading.{Sound, ReadOf, judgedAs}
 use Rattle.week.specs.declared.Judged.{Judged}
@@ -183,6 +183,15 @@ readable events s room e =
       more-in-range = departures-in-range events;
       few = omega (arith, few (s .over), s .within, at-most-4096-depart events);
     }
+
+-- The two parts of what is judged.
+pub judged-week : {r : Judged} (sites : List Site) (s : Site) → r ≡ judgedAs sites s → r .week ≡ weekOf (sites ++ s ∷ [])
+unfolding judgedAs
+judged-week sites s e = ap (λ (x : Judged). x .week) e
+
+pub judged-verdict : {r : Judged} (sites : List Site) (s : Site) → r ≡ judgedAs sites s → r .verdict ≡ verdictOf s
+unfolding judgedAs
+judged-verdict sites s e = ap (λ (x : Judged). x .verdict) e
 
 -- Files that are read in part.
 alike-judged : (sites : List Site) (s t : Site) → Alike s t → judgedAs sites s ≡ judgedAs sites t

@@ -1,13 +1,13 @@
 // A week of sites: each site's output is held to what the replay of its events prints, and the departures of the sites that follow are summed.
-ghost use Prim.Native.Nat.{ℕ, _<_, _≤_};
-ghost use mathlib.Core.List.{List, [], _∷_, _++_};
+ghost use Prim.Native.Nat.{_<_, _≤_};
+ghost use mathlib.Core.List.{List, []};
 ghost use mathlib.Core.Path.{_≡_};
 ghost use lib.ListN.{length};
 ghost use Rattle.play.specs.Transcript.{inputLimit, outputLimit};
 ghost use Rattle.play.specs.Log.{logLimit};
-ghost use Rattle.week.specs.Site.{Site, eventsUnread, outputUnread, files, followed as followedBy};
+ghost use Rattle.week.specs.Site.{Site, files, followed as followedBy};
 ghost use Rattle.week.specs.Week.{siteLimit, weekOf};
-ghost use Rattle.week.specs.Reading.{Sound, ReadOf, judgedAs};
+ghost use Rattle.week.specs.Reading.{Sound, GivesUnread, GivesSite, judgedAs};
 use play::Ending;
 use play::LOG_LIMIT;
 use play::OUTPUT_LIMIT;
@@ -54,7 +54,7 @@ impl Week {
     // One site more, of which a file cannot be read.
     pub fn with_unread(self) -> Self
         requires { ⌜ self .sites < siteLimit ⌝ }
-        ensures { λ r. ⌜ ((sites : List Site) → self ≡ weekOf sites → (r ≡ weekOf (sites ++ eventsUnread ∷ [])) × (r ≡ weekOf (sites ++ outputUnread ∷ []))) ⌝ }
+        ensures { λ r. ⌜ GivesUnread self r ⌝ }
     {
         let shares = self.shares;
         let sites = self.sites + 1;
@@ -79,7 +79,7 @@ impl Week {
         requires { ⌜ outputLimit < length (now output) ⌝ }
         requires { ⌜ «events_read» ≤ length (now events) ⌝ }
         requires { ⌜ «output_read» ≤ length (now output) ⌝ }
-        ensures { λ r. ⌜ ((sites : List Site) (e o : List ℕ) → self ≡ weekOf sites → ReadOf e (now (events .entry)) «events_read» → ReadOf o (now (output .entry)) «output_read» → r ≡ judgedAs sites (files e o)) ⌝ }
+        ensures { λ r. ⌜ GivesSite self (now (events .entry)) «events_read» (now (output .entry)) «output_read» r ⌝ }
     {
         self.judged(&events[..events_read], &output[..output_read])
     }
