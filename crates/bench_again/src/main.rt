@@ -1,4 +1,6 @@
 // The loop `again` of bench/plain/README.md: bursts of 100 from one full state.
+#![tactic(auto)]
+
 use bench_loops::{SENT, sums, words};
 
 fn again(n: u64) -> u32 {

@@ -1,4 +1,6 @@
 // The loop `departs` of bench/plain/README.md: 100 departures from one full state, one call each.
+#![tactic(auto)]
+
 use bench_loops::{SENT, sums, words};
 
 fn departs(n: u64) -> u32 {

@@ -1,4 +1,6 @@
 // What the bench's loops share: the checksum, the sizes offered, the opened flows, the full state, and the program's arguments. bench/plain/README.md defines the loops.
+#![tactic(auto)]
+
 ghost use Rattle.order.specs.Encoding.{Sound};
 
 use model::{FLOW_LIMIT, QUEUE_LIMIT, SIZE_LIMIT};

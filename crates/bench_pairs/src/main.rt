@@ -1,4 +1,6 @@
 // The loop `pairs` of bench/plain/README.md: one offer and one departure at a time.
+#![tactic(auto)]
+
 ghost use Rattle.std.specs.Prelude.{◌≤◌, ◌<◌};
 ghost use Rattle.model.specs.Limits.{flow_limit};
 ghost use Rattle.order.specs.Encoding.{Sound};
@@ -23,7 +25,7 @@ fn begun(flows: usize) -> State
 }
 
 // The state after an offer and a departure, with the checksum so far.
-#[derive(Drop)]
+#[derive(Clone, Copy)]
 struct Paired {
     state: State,
     check: u32,

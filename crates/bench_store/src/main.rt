@@ -1,4 +1,6 @@
 // The loop `store` of bench/plain/README.md: one packet into the store and one out of it.
+#![tactic(auto)]
+
 ghost use Rattle.std.specs.Prelude.{◌≡◌, ◌<◌, ◌≤◌, length};
 ghost use Rattle.model.specs.Limits.{size_limit};
 ghost use Rattle.store.specs.Promised.{SoundSite};
@@ -48,7 +50,7 @@ fn replied(check: u32, reply: Reply, out: &[u8; SIZE_LIMIT]) -> u32 {
 }
 
 // The site after an offer and a departure, with the answer and the reply.
-#[derive(Drop)]
+#[derive(Clone, Copy)]
 struct Paired {
     site: Site,
     answer: Answer,

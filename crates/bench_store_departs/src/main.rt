@@ -1,4 +1,6 @@
 // The loop `store_departs` of bench/plain/README.md: 100 store departures from one full site, one call each.
+#![tactic(auto)]
+
 ghost use Rattle.store.specs.Promised.{SoundSite};
 
 use bench_loops::{FULL, SENT, sums, words};

@@ -1,5 +1,7 @@
 // The calls for firmware, as include/houghbreeze.h declares them. An image is lent and changed in place; a reply is handed back by value. The calls on
 // bytes are the calls on sizes, with the packet's bytes moved beside them.
+#![tactic(auto)]
+
 ghost use Rattle.image.specs.Image.{SoundImage};
 ghost use Rattle.houghbreeze.specs.Promised.{ResetGives, OpenGives, OfferGives, DepartGives, BurstGives, SiteResetGives, SiteOpenGives, SiteOfferGives, SiteDepartGives};
 

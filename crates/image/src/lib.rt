@@ -1,4 +1,6 @@
 // The image of a state as firmware keeps it: the bytes of its flows and its line, and then the round's numbers; and what C reads as a reply.
+#![tactic(auto)]
+
 ghost use Rattle.std.specs.Prelude.{◌≡◌, ◌∷◌, ◌++◌, ◌≤◌, ◌<◌, ◌+◌, length, take, replicate};
 ghost use Rattle.std.proofs.lemmas.List.Edits.{sets};
 ghost use Rattle.layout.specs.Bytes.{digits};
@@ -13,7 +15,7 @@ pub mod replies;
 
 // What C reads as a reply.
 #[repr(C)]
-#[derive(Drop)]
+#[derive(Clone, Copy)]
 pub struct HbReply {
     pub kind: u16,
     pub refusal: u16,

@@ -1,8 +1,10 @@
 // Reads a file to its end. Unlike `io::read_full` it knows an end from a failed read, so that no program takes a part for the whole.
+#![tactic(auto)]
+
 ghost use Rattle.intake.specs.Intake.{Within};
 
 // The bytes that were read lie at the start of a buffer, so many.
-#[derive(Drop)]
+#[derive(Clone, Copy)]
 pub enum Intake {
     Bytes(usize),
     Failed,

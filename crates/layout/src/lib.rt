@@ -1,5 +1,7 @@
 // Where the flows and the line of a state lie: in one array of bytes, so that a caller can lend the whole of it and a call changes in place what it
 // concerns. First, for each flow, the sizes of its waiting packets; then, for each flow, its other numbers; then the line. No user calls these functions.
+#![tactic(auto)]
+
 ghost use Rattle.std.specs.Prelude.{◌≡◌, ◌≤◌, ◌<◌, ◌+◌, length, take, drop};
 ghost use Rattle.model.specs.Limits.{flow_limit};
 ghost use Rattle.layout.specs.Bytes.{byte_limit, sizes_room, number, with_sizes};

@@ -1,10 +1,12 @@
 // Reads the lines of a replay. A line is `flow=F weight=W`, `arrive=F size=S` or `send=N`, and ends in a line feed.
 // Each function tries its part of a line at a place of the input, and answers with what it read and the place just past it.
+#![tactic(auto)]
+
 ghost use Rattle.std.specs.Prelude.{◌≡◌};
 ghost use Rattle.lines.specs.Number.{stands, digit_at, digits_from, most_digits, number_at};
 ghost use Rattle.lines.specs.Line.{past_word, field_at, pair_at, event_at, line_at};
 
-#[derive(Drop)]
+#[derive(Clone, Copy)]
 pub enum Event {
     // A flow is opened: its number, its weight.
     Flow(usize, usize),
@@ -15,35 +17,35 @@ pub enum Event {
 }
 
 // An event with the place just past it, or a bad line.
-#[derive(Drop)]
+#[derive(Clone, Copy)]
 pub enum Line {
     Read(Event, usize),
     Bad,
 }
 
 // The place just past a word.
-#[derive(Drop)]
+#[derive(Clone, Copy)]
 enum Past {
     At(usize),
     Nowhere,
 }
 
 // A number with the place just past it.
-#[derive(Drop)]
+#[derive(Clone, Copy)]
 enum Number {
     Of(usize, usize),
     NoNumber,
 }
 
 // Two numbers with the place just past the second.
-#[derive(Drop)]
+#[derive(Clone, Copy)]
 enum Pair {
     Both(usize, usize, usize),
     NoPair,
 }
 
 // What the digits from a place on say, and the place just past them.
-#[derive(Drop)]
+#[derive(Clone, Copy)]
 struct Digits {
     value: usize,
     past: usize,

@@ -1,5 +1,6 @@
 // What the calls of every layer say to each other and to the caller, and the numbers of document 01's table that code compares with.
 // The model of Elastic Round Robin that all contracts cite is in specs/.
+#![tactic(auto)]
 
 // Flow numbers are 0 to 31.
 pub const FLOW_LIMIT: usize = 32;
@@ -26,14 +27,14 @@ pub const QUEUE_FULL: u8 = 6;
 pub const LIST_SHORT: u8 = 9;
 
 // Either no turn is open, or one is, with its flow, allowance and bytes sent so far.
-#[derive(Drop)]
+#[derive(Clone, Copy)]
 pub enum Serving {
     NoTurn,
     Turn(u8, u16, u16),
 }
 
 // What a departure reply tells: the flow, the packet's size, the round's mark and the turn's allowance.
-#[derive(Drop)]
+#[derive(Clone, Copy)]
 pub struct Sent {
     pub flow: u8,
     pub size: u16,
@@ -42,7 +43,7 @@ pub struct Sent {
 }
 
 // What a departure call replies with.
-#[derive(Drop)]
+#[derive(Clone, Copy)]
 pub enum Reply {
     Departure(Sent),
     Idle,
@@ -50,14 +51,14 @@ pub enum Reply {
 }
 
 // What open and offer reply with.
-#[derive(Drop)]
+#[derive(Clone, Copy)]
 pub enum Answer {
     Done,
     Refused(u8),
 }
 
 // What burst replies with: how many departures it made.
-#[derive(Drop)]
+#[derive(Clone, Copy)]
 pub enum Count {
     Made(usize),
     Refused(u8),

@@ -1,4 +1,6 @@
 // The calls on packet sizes: document 01's order layer. Each takes the scheduler's state and hands it back beside its reply.
+#![tactic(auto)]
+
 ghost use Rattle.order.specs.Encoding.{state_with, Sound};
 ghost use Rattle.order.specs.Promised.{NewGives, OpenGives, OfferGives, DepartGives, BurstGives, opened_in, placed_in, departed_in, counted_in};
 
@@ -10,56 +12,56 @@ pub mod in_place;
 
 // The scheduler's state, which only the calls make: the bytes of its flows and its line, and its round. The round's type is public because states lie in
 // other crates' structs.
-#[derive(Drop)]
+#[derive(Clone, Copy)]
 pub struct State {
     cells: [u8; CELLS],
     round: RoundCell,
 }
 
 // The replies, each with the state handed back beside it.
-#[derive(Drop)]
+#[derive(Clone, Copy)]
 pub struct Answered {
     pub state: State,
     pub answer: Answer,
 }
 
 // Offer and departure also tell where the packet lies or lay, for the layer that has its bytes.
-#[derive(Drop)]
+#[derive(Clone, Copy)]
 pub struct Placed {
     pub state: State,
     pub answer: Answer,
     pub into: Place,
 }
 
-#[derive(Drop)]
+#[derive(Clone, Copy)]
 pub struct Departed {
     pub state: State,
     pub reply: Reply,
     pub from: Place,
 }
 
-#[derive(Drop)]
+#[derive(Clone, Copy)]
 pub struct Counted {
     pub state: State,
     pub count: Count,
 }
 
 // The same of calls in place, where the bytes of the state are lent: the round, or of it the line's length, is handed back. No user calls these.
-#[derive(Drop)]
+#[derive(Clone, Copy)]
 pub struct LentOffer {
     pub length: u8,
     pub answer: Answer,
     pub into: Place,
 }
 
-#[derive(Drop)]
+#[derive(Clone, Copy)]
 pub struct LentDeparture {
     pub round: RoundCell,
     pub reply: Reply,
     pub from: Place,
 }
 
-#[derive(Drop)]
+#[derive(Clone, Copy)]
 pub struct LentBurst {
     pub round: RoundCell,
     pub count: Count,

@@ -1,4 +1,6 @@
 // The replay of an input: each line's event is given to the scheduler, and what is reported of it is printed into a buffer.
+#![tactic(auto)]
+
 ghost use Rattle.std.specs.Prelude.{◌≡◌, ◌+◌, ◌≤◌, ◌<◌, ◌^◌, length};
 ghost use Rattle.order.specs.Encoding.{Sound};
 ghost use Rattle.play.specs.Course.{replay_of, asked, desk, reported, Goes, Tells};
@@ -22,14 +24,14 @@ pub const OUTPUT_LIMIT: usize = 4 * INPUT_LIMIT;
 pub const LOG_LIMIT: usize = INPUT_LIMIT / 8;
 
 // How a replay ended: at the end of its input, or in a bad line, of which this is the number.
-#[derive(Drop)]
+#[derive(Clone, Copy)]
 pub enum Ending {
     Whole,
     BadLine(usize),
 }
 
 // What a replay gives beside what it put into its buffers: how many bytes it printed, how many numbers it noted, and how it ended.
-#[derive(Drop)]
+#[derive(Clone, Copy)]
 pub struct Told {
     pub written: usize,
     pub noted: usize,
@@ -37,7 +39,7 @@ pub struct Told {
 }
 
 // How far a replay has come: the scheduler, the departures so far, and the places up to which the buffer and the log are written.
-#[derive(Drop)]
+#[derive(Clone, Copy)]
 struct Course {
     state: State,
     sent: usize,

@@ -1,4 +1,6 @@
 // Text put into a buffer from a place on. Each function answers with the place just past what it put; what does not fit is left off.
+#![tactic(auto)]
+
 ghost use Rattle.std.specs.Prelude.{[], ◌∷◌, ◌++◌, ◌≡◌};
 ghost use Rattle.lines.specs.Written.{decimal as decimal_of};
 ghost use Rattle.print.specs.Page.{page, put};

@@ -1,11 +1,13 @@
 // A reader keeps the input and its place in it, and gives one event at a time. The borrow checker covers no function over a struct
 // that holds a slice, so these are thin and proved by hand; the work is done by `lines::line_at`.
+#![tactic(auto)]
+
 ghost use Rattle.std.specs.Prelude.{◌≡◌};
 ghost use Rattle.lines.specs.Line.{line_at};
 
 use lines::Line;
 
-#[derive(Drop)]
+#[derive(Clone, Copy)]
 pub struct Reader<'a> {
     pub input: &'a [u8],
     pub at: usize,

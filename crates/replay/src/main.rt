@@ -1,4 +1,6 @@
 // The replay program: event lines from standard input, the transcript to standard output. A failed read or write ends it quietly.
+#![tactic(auto)]
+
 use intake::Intake;
 use libc::{STDIN_FILENO, STDOUT_FILENO};
 use play::{INPUT_LIMIT, OUTPUT_LIMIT};

@@ -1,4 +1,6 @@
 // What departures amount to: for each flow, and for all flows together, how many packets and bytes were sent, and the largest packet.
+#![tactic(auto)]
+
 ghost use Rattle.std.specs.Prelude.{◌+◌, ◌<◌, ◌^◌, List, [], ◌++◌, ◌≡◌};
 ghost use Rattle.model.specs.declared.Sent.{Sent};
 ghost use Rattle.play.specs.Log.{log_of};
@@ -8,14 +10,14 @@ ghost use Rattle.shares.specs.Reading.{with_packet, Readable};
 use model::FLOW_LIMIT;
 
 // What was sent. The largest is 0 where nothing was.
-#[derive(Drop)]
+#[derive(Clone, Copy)]
 pub struct Share {
     pub packets: usize,
     pub bytes: usize,
     pub largest: usize,
 }
 
-#[derive(Drop)]
+#[derive(Clone, Copy)]
 pub struct Shares {
     pub flows: [Share; FLOW_LIMIT],
     pub total: Share,

@@ -1,5 +1,7 @@
 // The share sheet: names of files, event lines and the replay's output in pairs, one pair for each site. Prints the sums over the sites whose output
 // follows from their events, and a line for each site that is left out or ended in a bad line.
+#![tactic(auto)]
+
 ghost use Rattle.std.specs.Prelude.{◌+◌, ◌*◌, ◌<◌, ◌≤◌, ◌≡◌, length};
 ghost use Rattle.intake.specs.Intake.{Within};
 ghost use Rattle.play.specs.Transcript.{input_limit, output_limit};
@@ -17,7 +19,7 @@ use week::{Judged, SITE_LIMIT, Verdict, Week};
 const REMARKS: usize = SITE_LIMIT * 4_352;
 
 // The sums over all sites, and the place up to which the remarks are put.
-#[derive(Drop)]
+#[derive(Clone, Copy)]
 struct Made {
     week: Week,
     past: usize,

@@ -1,4 +1,6 @@
 // The text of a share sheet, put into a buffer. Each function answers with the place just past what it put; what does not fit is left off.
+#![tactic(auto)]
+
 ghost use Rattle.std.specs.Prelude.{◌++◌, map, ◌≡◌};
 ghost use Rattle.lines.specs.Text.{bytes};
 ghost use Rattle.lines.specs.Written.{decimal, field as field_text};

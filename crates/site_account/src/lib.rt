@@ -1,1 +1,2 @@
 // No code: specs/ says what demand 3 promises of stretches of store calls, over the bytes that leave, and proofs/ proves it.
+#![tactic(auto)]

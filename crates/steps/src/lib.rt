@@ -1,5 +1,7 @@
 // Document 01's steps, one function for each, and the checks of open and offer, on the parts of a state that a call concerns: the round's numbers and one
 // flow by value, the line lent. No user calls them: the state's calls stand above, and what a step may count on is shown there.
+#![tactic(auto)]
+
 use model::{Answer, FLOW_LIMIT, Serving};
 
 pub mod ask;
@@ -11,7 +13,7 @@ pub mod round;
 pub const LINE_ROOM: usize = FLOW_LIMIT + 1;
 
 // One flow: the sizes of its waiting packets, each less one so that 256 fits a byte, are the digits of one number in base 256, the first packet's lowest.
-#[derive(Drop)]
+#[derive(Clone, Copy)]
 pub struct FlowCell {
     pub weight: u16,
     pub surplus: u16,
@@ -21,7 +23,7 @@ pub struct FlowCell {
 }
 
 // The round's numbers; `length` tells how many flows stand in the line.
-#[derive(Drop)]
+#[derive(Clone, Copy)]
 pub struct RoundCell {
     pub length: u8,
     pub visits: u8,
@@ -31,7 +33,7 @@ pub struct RoundCell {
 }
 
 // A packet's flow, its slot there and its size; of size 0 where there is no packet.
-#[derive(Drop)]
+#[derive(Clone, Copy)]
 pub struct Place {
     pub flow: usize,
     pub slot: usize,
@@ -39,14 +41,14 @@ pub struct Place {
 }
 
 // What open makes of the flow that it concerns, with its answer.
-#[derive(Drop)]
+#[derive(Clone, Copy)]
 pub struct Opened {
     pub flow: FlowCell,
     pub answer: Answer,
 }
 
 // What offer makes of the line's length and of the flow that it concerns, with its answer and the packet's place.
-#[derive(Drop)]
+#[derive(Clone, Copy)]
 pub struct Offered {
     pub length: u8,
     pub flow: FlowCell,

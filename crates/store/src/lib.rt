@@ -1,5 +1,7 @@
 // The calls on packet bytes: document 01's store layer. A site is a scheduler whose packets lie in one store: only open, reset and the store
 // calls drive it. The store is the caller's, and is lent to each call.
+#![tactic(auto)]
+
 ghost use Rattle.store.specs.Promised.{SoundSite, NewGives, OpenGives, OfferGives, DepartGives};
 
 use model::{Answer, Reply};
@@ -18,19 +20,19 @@ pub const OUT_SHORT: u8 = 7;
 pub const STORE_WRONG: u8 = 8;
 
 // A scheduler whose packets lie in a store. Its state is its own: order-layer calls give no Site, so a chain of sites has store calls only.
-#[derive(Drop)]
+#[derive(Clone, Copy)]
 pub struct Site {
     order: State,
 }
 
 // The replies, each with the site handed back beside it.
-#[derive(Drop)]
+#[derive(Clone, Copy)]
 pub struct SiteAnswered {
     pub site: Site,
     pub answer: Answer,
 }
 
-#[derive(Drop)]
+#[derive(Clone, Copy)]
 pub struct SiteDeparted {
     pub site: Site,
     pub reply: Reply,

@@ -1,5 +1,7 @@
 // Random calls of both layers, as reference/CALLS.md defines them, from a seed and a number of calls; then the bench row on the store's length. What
 // it prints is held to what the independent program prints.
+#![tactic(auto)]
+
 use libc::{STDERR_FILENO, STDOUT_FILENO};
 use store::{STORE_LENGTH, Site};
 use test_runs::{buffers, lines, sums};

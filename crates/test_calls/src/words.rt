@@ -3,7 +3,7 @@
 // The largest seed, and the most calls.
 const LARGEST: u64 = 4294967295;
 
-#[derive(Drop)]
+#[derive(Clone, Copy)]
 pub enum Word {
     Number(u32),
     Other,

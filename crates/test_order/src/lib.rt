@@ -1,4 +1,6 @@
 // Random calls of the order layer: the part `order` of reference/CALLS.md.
+#![tactic(auto)]
+
 ghost use Rattle.order.specs.Encoding.{Sound};
 
 use order::State;
@@ -8,7 +10,7 @@ use test_runs::sums;
 use test_runs::sums::{COUNTS, Folded};
 
 // What a call leaves: the state, and the checksum with its reply.
-#[derive(Drop)]
+#[derive(Clone, Copy)]
 struct Step {
     state: State,
     folded: Folded,

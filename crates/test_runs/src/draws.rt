@@ -2,7 +2,7 @@
 ghost use Rattle.std.specs.Prelude.{◌<◌};
 
 // The generator's number and what was drawn by it.
-#[derive(Drop)]
+#[derive(Clone, Copy)]
 struct Drawn {
     x: u32,
     value: usize,
@@ -93,7 +93,7 @@ fn length(x: u32) -> Drawn
 }
 
 // What is asked for: a flow and a weight, a packet's length, a size where it is a number, and how many departures.
-#[derive(Drop)]
+#[derive(Clone, Copy)]
 struct Asked {
     x: u32,
     flow: usize,
@@ -123,7 +123,7 @@ fn ask(x: u32, width: usize) -> Asked
 }
 
 // How many bytes of the list, the store and the outgoing buffer are lent; a packet's first byte, and the step from byte to byte.
-#[derive(Drop)]
+#[derive(Clone, Copy)]
 struct Lent {
     x: u32,
     list: usize,
@@ -152,7 +152,7 @@ fn lend(x: u32, departures: usize) -> Lent
 }
 
 // Which call. The store layer has no burst, and makes a departure instead.
-#[derive(Drop)]
+#[derive(Clone, Copy)]
 pub enum Kind {
     Reset,
     Open,
@@ -181,7 +181,7 @@ fn kind_of(phase: u64, r: u64) -> Kind {
 }
 
 // A call and what it is made with, as in Asked and Lent, and the generator's number after its draws.
-#[derive(Drop)]
+#[derive(Clone, Copy)]
 pub struct Call {
     pub x: u32,
     pub kind: Kind,

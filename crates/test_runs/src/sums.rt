@@ -25,7 +25,7 @@ pub const UNFOLDED: u32 = 2166136261;
 const CALLS_TO_A_LINE: u64 = 1000;
 
 // The checksum with a reply, and the reply's number.
-#[derive(Drop)]
+#[derive(Clone, Copy)]
 pub struct Folded {
     pub check: u32,
     pub number: u8,

@@ -1,4 +1,6 @@
 // Random calls of the store layer: the part `store` of reference/CALLS.md.
+#![tactic(auto)]
+
 ghost use Rattle.store.specs.Promised.{SoundSite};
 
 use store::Site;
@@ -11,7 +13,7 @@ use test_runs::sums::{COUNTS, Folded};
 const PACKET_ROOM: usize = 258;
 
 // What a call leaves: the site, and the checksum with its reply.
-#[derive(Drop)]
+#[derive(Clone, Copy)]
 struct Step {
     site: Site,
     folded: Folded,

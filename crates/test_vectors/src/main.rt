@@ -1,5 +1,7 @@
 // Recorded replays: for each name among the arguments, says whether the replay of NAME.in prints what NAME.out has.
 // `reference/vectors.sh` records them, with a program that shares no code with this one.
+#![tactic(auto)]
+
 ghost use Rattle.intake.specs.Intake.{Within};
 
 use intake::Intake;

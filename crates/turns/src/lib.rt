@@ -1,5 +1,7 @@
 // A departure: document 01's steps 2 to 6 one after the other, on the round and the flow whose turn it is. No user calls these functions: the state's
 // calls stand above, and what they may count on is shown there.
+#![tactic(auto)]
+
 ghost use Rattle.std.specs.Prelude.{◌≡◌, List, get_or, ℕ};
 ghost use Rattle.model.specs.Steps.{served as served_of, visit as visit_of, whose as whose_of};
 ghost use Rattle.model.specs.declared.Serving.TheVariants.{NoTurn};
@@ -11,7 +13,7 @@ use model::{Reply, Sent, Serving};
 use steps::{FlowCell, RoundCell, flow, round};
 
 // What a departure call makes of the round's numbers and of the flow whose turn it is, with its reply.
-#[derive(Drop)]
+#[derive(Clone, Copy)]
 pub struct Visited {
     pub round: RoundCell,
     pub flow: FlowCell,

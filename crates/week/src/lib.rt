@@ -1,4 +1,6 @@
 // A week of sites: each site's output is held to what the replay of its events prints, and the departures of the sites that follow are summed.
+#![tactic(auto)]
+
 ghost use Rattle.std.specs.Prelude.{◌<◌, ◌≤◌, List, [], ◌≡◌, length};
 ghost use Rattle.play.specs.Transcript.{input_limit, output_limit};
 ghost use Rattle.play.specs.Log.{log_limit};
@@ -15,7 +17,7 @@ mod compare;
 pub const SITE_LIMIT: usize = 64;
 
 // What is said of a site: its output follows from its events, to their end or to a bad line; it differs, from a line on; or a file cannot be read.
-#[derive(Drop)]
+#[derive(Clone, Copy)]
 pub enum Verdict {
     Follows,
     Ended(usize),
@@ -25,14 +27,14 @@ pub enum Verdict {
 }
 
 // The sums over the sites so far, how many of them are in the sums, and how many there are.
-#[derive(Drop)]
+#[derive(Clone, Copy)]
 pub struct Week {
     pub shares: Shares,
     pub summed: usize,
     pub sites: usize,
 }
 
-#[derive(Drop)]
+#[derive(Clone, Copy)]
 pub struct Judged {
     pub week: Week,
     pub verdict: Verdict,
