@@ -10,7 +10,7 @@ use borrow.Author.Tests.{le-leb, lt-leb}
 use Rattle.model.specs.Limits.{flow_limit, mark_limit}
 use Rattle.model.specs.Model.{Flow}
 use Rattle.model.specs.Rules.{FlowRules}
-use Rattle.model.specs.Steps.{allowance, surplus_cleared, first_size, first_left, turn_ends, turn_kept, turn_closed, excess_kept, settled, served}
+use Rattle.model.specs.Steps.{surplus_cleared, first_size, first_left, turn_ends, turn_kept, turn_closed, excess_kept, settled, served}
 use Rattle.model.specs.declared.Reply.{Reply}
 use Rattle.model.specs.declared.Reply.TheVariants.{Departure}
 use Rattle.model.proofs.Flows.{left_flow_rules}
