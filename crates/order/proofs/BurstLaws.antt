@@ -6,10 +6,6 @@ use native.Mathlib.Omega.{arith}
 use native.Mathlib.Numerals.{add-one}
 use lib.ListN.{length, set, take, drop, length-set, length-map, take-append-drop}
 use lib.Seq.{take-suc-set, drop-set-lt, length-take-le, drop-drop, append_snoc}
-use mathlib.Core.Logic.{⊎_elim}
-use types.Run.{OneOf}
-use denote.Enum.Declared.{tag_of}
-use Rattle.model.specs.contracts.Reply.{the_type}
 use mathlib.Core.Bool.{Bool, cond}
 use borrow.Author.Tests.{lt-ltb, le-ltb}
 use Rattle.model.specs.Choose.{if_zero}
@@ -142,17 +138,21 @@ module _ (s : Scheduler) (n : ℕ) (before : List ℕ) (c : State) (made : ℕ) 
       nothing_left : n - made ≡ 0
       nothing_left = omega (arith, U.not_too_many)
 
--- A reply whose kind is none of a departure's ends the burst.
-pub no_departure_ends : (r : Reply) → OneOf (1 ∷ 2 ∷ []) (tag_of the_type r) → (s : Scheduler) (more : Departures)
+-- No departure leaves by this reply.
+abbrev pub NoDeparture : Reply → Type 0
+NoDeparture r = (d : Sent) → r ≡ Departure d → ⊥
+
+-- A reply by which no departure leaves ends the burst.
+pub no_departure_ends : (r : Reply) → NoDeparture r → (s : Scheduler) (more : Departures)
     → and_then r s more ≡ record { state = s; sent = [] }
 unfolding and_then
-no_departure_ends (Departure d) k s more = ⊎_elim (λ (e : 0 ≡ 1). absurd (omega arith)) (λ (e : 0 ≡ 2). absurd (omega arith)) k
+no_departure_ends (Departure d) k s more = absurd (k d refl)
 no_departure_ends Idle k s more = refl
 no_departure_ends (Refused n) k s more = refl
 
 module _ (s : Scheduler) (n : ℕ) (before : List ℕ) (c : State) (made : ℕ) (list : List ℕ) (U : Underway s n before c made list) where
   stopped : (c' : State) (r : Reply) → made < n → c' ≡ encode (departed (view c)).state → (departed (view c)).reply ≡ r
-      → OneOf (1 ∷ 2 ∷ []) (tag_of the_type r) → (c₀ : State) → view c₀ ≡ s → BurstGives c₀ n before list (record { state = c'; count = Made made })
+      → NoDeparture r → (c₀ : State) → view c₀ ≡ s → BurstGives c₀ n before list (record { state = c'; count = Made made })
   stopped c' r h e reply kind =
       burst_ends s n before c made list U c'
       (subst Sound (sym e) (sound_of (departed (view c)).state (departed_keeps (view c) U.sound.rules)))
@@ -180,7 +180,7 @@ module _ (s : Scheduler) (n : ℕ) (before : List ℕ) (c : State) (made : ℕ) 
   visit_made d r =
       one_more_made s n before c made list U visited d more (departed_state c U.sound at e v line g) (sym (departed_reply c U.sound at e v line g) ∙ r)
 
-  pub visit_stops : OneOf (1 ∷ 2 ∷ []) (tag_of the_type v.reply) → (c₀ : State) → view c₀ ≡ s
+  pub visit_stops : NoDeparture v.reply → (c₀ : State) → view c₀ ≡ s
       → BurstGives c₀ n before list (record { state = visited; count = Made made })
   visit_stops kind =
       stopped s n before c made list U visited v.reply more (departed_state c U.sound at e v line g) (sym (departed_reply c U.sound at e v line g)) kind

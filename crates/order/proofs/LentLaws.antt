@@ -7,9 +7,6 @@ use native.Mathlib.Omega.{arith}
 use lib.ListN.{length, get_or, set, take, drop, length-append, length-drop, drop_of_length-le}
 use lib.Seq.{take_all, length-take-le, get_or-drop}
 use lib.Dec.{ltb}
-use types.Run.{OneOf}
-use denote.Enum.Declared.{tag_of}
-use Rattle.model.specs.contracts.Reply.{the_type}
 use Rattle.model.specs.declared.Count.TheVariants.{Made}
 use Rattle.model.specs.declared.Reply.TheVariants.{Departure}
 use Rattle.model.specs.declared.Sent.{Sent}
@@ -37,7 +34,7 @@ use Rattle.layout.proofs.Laws.{with_flow_length}
 use Rattle.order.specs.Encoding.{view, Sound, state_with}
 use Rattle.order.specs.Promised.{OpenGives, OfferGives, DepartGives, BurstGives}
 use Rattle.order.specs.declared.State.{State}
-use Rattle.order.proofs.BurstLaws.{Underway, visit_made, visit_stops}
+use Rattle.order.proofs.BurstLaws.{NoDeparture, Underway, visit_made, visit_stops}
 use Rattle.order.proofs.StateLaws.{round_of, round_of_sound, bytes_count, cell_ready, at_in_reach, may_visit, visit_seen, departed_gives, index_in_reach, opened_gives, may_offer_to, offered_gives}
 
 -- The line as it is lent, and the bytes with a line that has come back.
@@ -164,7 +161,7 @@ module _ (s : Scheduler) (n : ℕ) (before : List ℕ) (c : State) (made : ℕ) 
       subst (λ (j : State). Underway s n before j (made + 1) (set list made d.flow)) same_then
       (visit_made s n before c made list U more at e v line (whole_line c U.sound at e x k v line g) d r)
 
-  pub lent_visit_stops : OneOf (1 ∷ 2 ∷ []) (tag_of the_type v.reply) → (c₀ : State) → view c₀ ≡ s
+  pub lent_visit_stops : NoDeparture v.reply → (c₀ : State) → view c₀ ≡ s
       → BurstGives c₀ n before list (record { state = lent_then; count = Made made })
   lent_visit_stops kind c₀ same =
       subst (λ (j : State). BurstGives c₀ n before list (record { state = j; count = Made made })) same_then

@@ -1,18 +1,16 @@
 -- From what the scheduler's calls and the printing functions give to what `run` and `send` promise.
+use Rattle.order.proofs.BurstLaws.{NoDeparture}
 use Prim.Native.Nat.{ℕ, suc, ◌+◌, ◌-◌, ◌^◌, ◌<◌, ◌≤◌}
 use native.Mathlib.Omega.{arith}
 use mathlib.Core.List.{List, [], ◌∷◌}
 use mathlib.Core.Path.{◌≡◌, refl, sym, ap, ap₂, ◌∙◌, subst}
 use lib.ListN.{length}
-use denote.Enum.Declared.{tag_of}
-use types.Run.{OneOf}
 use Rattle.model.specs.Model.{Scheduler}
 use Rattle.model.specs.Calls.{Outcome, opened, offered, departed}
 use Rattle.model.specs.declared.Sent.{Sent}
 use Rattle.model.specs.declared.Answer.{Answer}
 use Rattle.model.specs.declared.Reply.{Reply}
 use Rattle.model.specs.declared.Reply.TheVariants.{Departure}
-use Rattle.model.specs.contracts.Reply.{the_type}
 use Rattle.lines.specs.declared.Event.{Event}
 use Rattle.lines.specs.declared.Event.TheVariants.{Flow, Arrive, Send}
 use Rattle.order.specs.Encoding.{view, Sound}
@@ -119,7 +117,7 @@ module _ {goal : Desk} {end : Replay} {out log : List ℕ} {s : State} {n past n
         }
         on = ap (sending (replay (view s) n)) one_left ∙ sending_goes_on (view s) n (left - 1) d (sym (reply_departed g) ∙ e)
 
-    pub sends_idle : {out' : List ℕ} {past' : ℕ} → OneOf (1 ∷ 2 ∷ []) (tag_of the_type r.reply) → page out' past' ≡ put (page out past) (line_of (idle n))
+    pub sends_idle : {out' : List ℕ} {past' : ℕ} → NoDeparture r.reply → page out' past' ≡ put (page out past) (line_of (idle n))
         → (desk out' past' log noted ≡ goal) × (replay (view r.state) n ≡ end)
     sends_idle k f = (
       idle_reported (desk out past log noted) n f ∙ ap (λ (x : Happening). reported (desk out past log noted) x.reports) (sym stops) ∙ h.reports,
@@ -129,7 +127,7 @@ module _ {goal : Desk} {end : Replay} {out log : List ℕ} {s : State} {n past n
         stops : sending (replay (view s) n) left ≡ record { after = replay (departed (view s)).state n; reports = idle n ∷ [] }
         stops =
             ap (sending (replay (view s) n)) one_left
-            ∙ sending_ends (view s) n (left - 1) (subst (λ (x : Reply). OneOf (1 ∷ 2 ∷ []) (tag_of the_type x)) (reply_departed g) k)
+            ∙ sending_ends (view s) n (left - 1) (subst (λ (x : Reply). NoDeparture x) (reply_departed g) k)
 
 -- where the loop begins, and where the function returns
 module _ (c : Course) (S : Sound c.state) (count : ℕ) (out log : List ℕ) where

@@ -7,8 +7,6 @@ use mathlib.Core.Path.{◌≡◌, refl, sym, ap, ap₂, ◌∙◌}
 use lib.ListN.{length}
 use lib.Dec.{leb-suc-suc}
 use borrow.Author.Tests.{lt-ltb}
-use denote.Enum.Declared.{tag_of}
-use types.Run.{OneOf}
 use Rattle.model.specs.Model.{Scheduler}
 use Rattle.model.specs.Calls.{departed, and_then, departures}
 use Rattle.model.specs.declared.Sent.{Sent}
@@ -16,8 +14,7 @@ use Rattle.model.specs.declared.Answer.{Answer}
 use Rattle.model.specs.declared.Answer.TheVariants.{Done, Refused}
 use Rattle.model.specs.declared.Reply.{Reply}
 use Rattle.model.specs.declared.Reply.TheVariants.{Departure, Idle, Refused as ReplyRefused}
-use Rattle.model.specs.contracts.Reply.{the_type}
-use Rattle.order.proofs.BurstLaws.{no_departure_ends}
+use Rattle.order.proofs.BurstLaws.{NoDeparture, no_departure_ends}
 use Rattle.lines.specs.declared.Event.{Event}
 use Rattle.lines.specs.declared.Event.TheVariants.{Flow, Arrive, Send}
 use Rattle.play.specs.Course.{asked}
@@ -70,7 +67,7 @@ module _ (s : Scheduler) (n k : ℕ) where
         reports = sent (n + 1) d ∷ (numbered (n + 1) more.sent ++ cond t (idle m ∷ []) []);
       }) (omega arith) (leb-suc-suc (suc (length more.sent)) k)
 
-  pub sending_ends : OneOf (1 ∷ 2 ∷ []) (tag_of the_type (departed s).reply)
+  pub sending_ends : NoDeparture (departed s).reply
       → sending (replay s n) (suc k) ≡ record { after = replay (departed s).state n; reports = idle n ∷ [] }
   unfolding sending departing departures numbered
   sending_ends h =

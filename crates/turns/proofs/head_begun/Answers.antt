@@ -17,7 +17,7 @@ allowance-allowed-requires c =
 
 pub turn_opened-requires : goal.turn_opened-requires
 turn_opened-requires c = let all = may_open_turn (in_place c.args.line.now c.args.r) c.args.x c.requires (in_place c.args.line.now c.started-now.result)
-    (c.started-now.ensures c.args.line.now c.requires.round_ready) in record { round_ready = all.0; length_nonzero = all.1 }  -- CHECK
+    (c.started-now.ensures c.args.line.now c.requires.round_ready) in record { round_ready = all.0; length_nonzero = all.1 }
 
 pub returns : goal.returns
 returns c =

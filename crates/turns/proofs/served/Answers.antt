@@ -6,7 +6,7 @@ use Rattle.turns.proofs.served.Goals as goal
 
 pub turn_emptied-over-requires : goal.turn_emptied-over-requires
 turn_emptied-over-requires c = let all = may_empty (in_place c.args.line.now c.args.r) c.args.x c.args.allowed c.args.sent c.requires
-    c.first_left-left.result c.first_left-left.ensures c.first_size-size.result (c.first_size-size.ensures c.requires.has_first) c.if-left-eq0.true in record { flow_ready = all.0; le_visits = all.1.0; waiting_value = all.1.1 }  -- CHECK
+    c.first_left-left.result c.first_left-left.ensures c.first_size-size.result (c.first_size-size.ensures c.requires.has_first) c.if-left-eq0.true in record { flow_ready = all.0; le_visits = all.1.0; waiting_value = all.1.1 }
 
 pub cleared-bare-requires : goal.cleared-bare-requires
 cleared-bare-requires c =
@@ -22,11 +22,11 @@ returns-then-left-eq0 c =
 
 pub turn_closed-closed-requires : goal.turn_closed-closed-requires
 turn_closed-closed-requires c = let all = may_close (in_place c.args.line.now c.args.r) c.args.x c.args.allowed c.args.sent c.requires
-    c.first_left-left.result c.first_left-left.ensures c.first_size-size.result (c.first_size-size.ensures c.requires.has_first) c.if-left-eq0.false (omega (arith, c.if-allowed-total.true)) in record { round_ready = all.0; flow_ready = all.1.0; length_lt_flow_limit = all.1.1.0; waiting_nonzero = all.1.1.1 }  -- CHECK
+    c.first_left-left.result c.first_left-left.ensures c.first_size-size.result (c.first_size-size.ensures c.requires.has_first) c.if-left-eq0.false (omega (arith, c.if-allowed-total.true)) in record { round_ready = all.0; flow_ready = all.1.0; length_lt_flow_limit = all.1.1.0; waiting_nonzero = all.1.1.1 }
 
 pub excess_kept-kept-requires : goal.excess_kept-kept-requires
 excess_kept-kept-requires c = let all = may_keep (in_place c.args.line.now c.args.r) c.args.x c.args.allowed c.args.sent c.requires
-    c.first_left-left.result c.first_left-left.ensures c.first_size-size.result (c.first_size-size.ensures c.requires.has_first) c.if-left-eq0.false (omega (arith, c.if-allowed-total.true)) in record { flow_ready = all.0; waiting_nonzero = all.1 }  -- CHECK
+    c.first_left-left.result c.first_left-left.ensures c.first_size-size.result (c.first_size-size.ensures c.requires.has_first) c.if-left-eq0.false (omega (arith, c.if-allowed-total.true)) in record { flow_ready = all.0; waiting_nonzero = all.1 }
 
 pub returns-then-allowed-total : goal.returns-then-allowed-total
 returns-then-allowed-total c =
