@@ -1,5 +1,4 @@
-// A reader keeps the input and its place in it, and gives one event at a time. The borrow checker covers no function over a struct
-// that holds a slice, so these are thin and proved by hand; the work is done by `lines::line_at`.
+// A reader keeps the input and its place in it, and gives one event at a time. These are thin; the work is done by `lines::line_at`.
 #![tactic(auto)]
 
 ghost use Rattle.std.specs.Prelude.{◌≡◌};
@@ -37,7 +36,7 @@ pub fn next<'a>(reader: Reader<'a>) -> Line
     lines::line_at(reader.input, reader.at)
 }
 
-// What a reader of this input says at this place. A caller that keeps the place itself, as a loop does, needs no proof by hand.
+// What a reader of this input says at this place, for a caller that keeps the place itself, as a loop does.
 pub fn read(input: &[u8], at: usize) -> Line
     ensures { result ≡ line_at input.now at }
 {
