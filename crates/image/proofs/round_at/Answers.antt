@@ -1,0 +1,18 @@
+-- Each number is read where it lies.
+use Prim.Native.Nat.{ℕ, ◌+◌}
+use mathlib.Core.Path.{ap₂, ◌∙◌}
+use lib.ListN.{get_or}
+use Rattle.image.specs.Image.{round_start, round_in, turn_from}
+use Rattle.image.proofs.round_at.Goals as goal
+
+pub returns : goal.returns
+unfolding round_in
+returns c =
+    let image = c.args.image.now in
+    let r = round_in image in
+    let mark = c.pair_at-mark.ensures in
+    let running = c.pair_at-running.ensures in
+    let turn =
+    c.turn_of-turn.ensures
+    ∙ ap₂ (λ (n m : ℕ). turn_from (get_or image (round_start + 6) 0) n m) c.pair_at.ensures c.pair_at-2.ensures in
+    λ i. record { length = r.length; visits = r.visits; mark = mark i; running = running i; turn = turn i }

@@ -1,0 +1,18 @@
+-- `play::replay` meets its contract. The loop's invariant: what is left of the replay leads to all that it reports. The measure is what is left of the
+use borrow.Author.Rules.{rules}
+use Prim.Native.Nat.{◌-◌}
+use mathlib.Core.Path.{sym, ◌∙◌}
+use native.Mathlib.Omega.{arith}
+use lib.ListN.{length}
+use Rattle.play.specs.Course.{desk, reported}
+use Rattle.play.specs.Log.{ending_of}
+use Rattle.play.specs.Transcript.{reports}
+use Rattle.play.proofs.LogLaws.{reported_keeps}
+use Rattle.play.proofs.PlayLaws.{Plays, plays_begin, plays_end, plays_bad, may_run, less_left, plays_on}
+use Rattle.play.proofs.replay.Given as goal
+
+abbrev pub invariant-loop-at : goal.invariant-loop-at
+invariant-loop-at l = Plays (reported (desk l.initial.out 0 l.initial.log 0) (reports l.input)) (ending_of l.input) l.input l.out l.log l.course l.at l.line
+
+abbrev pub decreases-loop-at : goal.decreases-loop-at
+decreases-loop-at l = length l.input - l.at

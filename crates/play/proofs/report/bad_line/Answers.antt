@@ -1,0 +1,7 @@
+-- `play::report::bad_line` meets its contract.
+use borrow.Author.Rules.{rules}
+use Rattle.play.proofs.ReportLaws.{bad_printed}
+use Rattle.play.proofs.report.bad_line.Goals as goal
+
+pub returns : goal.returns
+returns c = bad_printed _ _ c.field-end.ensures c.byte.ensures

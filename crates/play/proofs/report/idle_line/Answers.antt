@@ -1,0 +1,7 @@
+-- `play::report::idle_line` meets its contract.
+use borrow.Author.Rules.{rules}
+use Rattle.play.proofs.ReportLaws.{idle_printed}
+use Rattle.play.proofs.report.idle_line.Goals as goal
+
+pub returns : goal.returns
+returns c = idle_printed _ _ c.field-end.ensures c.byte.ensures

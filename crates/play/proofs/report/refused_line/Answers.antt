@@ -1,0 +1,8 @@
+-- `play::report::refused_line` meets its contract.
+use borrow.Author.Rules.{rules}
+use Rattle.play.proofs.ReportLaws.{refused_printed}
+use Rattle.play.proofs.report.refused_line.Goals as goal
+
+pub returns : goal.returns
+returns c =
+    refused_printed _ _ _ c.field-numbered.ensures c.field-end.ensures c.byte.ensures

@@ -1,0 +1,8 @@
+-- `play::report::sent_line` meets its contract.
+use borrow.Author.Rules.{rules}
+use Rattle.play.proofs.ReportLaws.{sent_printed}
+use Rattle.play.proofs.report.sent_line.Goals as goal
+
+pub returns : goal.returns
+returns c =
+    sent_printed _ _ _ c.field-numbered.ensures c.reply-end.ensures c.byte.ensures

@@ -1,0 +1,16 @@
+-- `play::run` meets its contract: each arm does what its event says.
+use borrow.Author.Rules.{rules}
+use Rattle.play.proofs.CourseLaws.{open_goes, offer_goes, send_fits, send_happens}
+use Rattle.play.proofs.run.Goals as goal
+
+pub returns-in-Flow : goal.returns-in-Flow
+returns-in-Flow c =
+    open_goes _ c.requires.sound _ _ c.answer_line-past.ensures _ _ _ c.in-Flow.is c.open-answered.ensures
+
+pub returns-in-Arrive : goal.returns-in-Arrive
+returns-in-Arrive c =
+    offer_goes _ c.requires.sound _ _ c.answer_line-past-in-Arrive.ensures _ _ _ c.in-Arrive.is c.offer-answered.ensures
+
+pub returns-in-Send : goal.returns-in-Send
+returns-in-Send c =
+    send_happens _ c.requires.sound _ _ _ _ _ c.in-Send.is c.send.ensures
