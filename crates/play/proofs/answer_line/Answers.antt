@@ -1,5 +1,4 @@
 -- `play::answer_line` meets its contract.
-use borrow.Author.Rules.{rules}
 use Rattle.play.proofs.StoryLaws.{nothing_printed, refusal_printed}
 use Rattle.play.proofs.answer_line.Goals as goal
 

@@ -1,14 +1,10 @@
 -- `play::replay` meets its contract. The loop's invariant: what is left of the replay leads to all that it reports. The measure is what is left of the
-use borrow.Author.Rules.{rules}
 use Prim.Native.Nat.{◌-◌}
-use mathlib.Core.Path.{sym, ◌∙◌}
-use native.Mathlib.Omega.{arith}
 use lib.ListN.{length}
 use Rattle.play.specs.Course.{desk, reported}
 use Rattle.play.specs.Log.{ending_of}
 use Rattle.play.specs.Transcript.{reports}
-use Rattle.play.proofs.LogLaws.{reported_keeps}
-use Rattle.play.proofs.PlayLaws.{Plays, plays_begin, plays_end, plays_bad, may_run, less_left, plays_on}
+use Rattle.play.proofs.PlayLaws.{Plays}
 use Rattle.play.proofs.replay.Given as goal
 
 abbrev pub invariant-loop-at : goal.invariant-loop-at

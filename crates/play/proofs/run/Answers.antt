@@ -1,6 +1,5 @@
 -- `play::run` meets its contract: each arm does what its event says.
-use borrow.Author.Rules.{rules}
-use Rattle.play.proofs.CourseLaws.{open_goes, offer_goes, send_fits, send_happens}
+use Rattle.play.proofs.CourseLaws.{open_goes, offer_goes, send_happens}
 use Rattle.play.proofs.run.Goals as goal
 
 pub returns-in-Flow : goal.returns-in-Flow

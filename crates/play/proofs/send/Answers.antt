@@ -1,11 +1,5 @@
 -- `play::send` meets its contract. The loop's invariant: what is left to send leads where the whole does. The measure is what is left.
-use borrow.Author.Rules.{rules}
-use native.Mathlib.Omega.{arith}
-use Rattle.order.specs.Encoding.{view}
-use Rattle.play.specs.Course.{desk, reported}
-use Rattle.play.specs.Story.{sending}
-use Rattle.play.proofs.StoryLaws.{replay}
-use Rattle.play.proofs.CourseLaws.{Sends, sends_none, sends_on, sends_idle, sends_begin, send_goes, goes_keeps}
+use Rattle.play.proofs.CourseLaws.{sends_none, sends_on, sends_idle, send_goes}
 use Rattle.play.proofs.send.Goals as goal
 
 pub returns-in_default : goal.returns-in_default

@@ -1,5 +1,4 @@
 -- `play::tell` meets its contract: too long an input is one bad line, and any other is replayed.
-use borrow.Author.Rules.{rules}
 use Rattle.play.proofs.PlayLaws.{tells, too_long_tells}
 use Rattle.play.proofs.tell.Goals as goal
 

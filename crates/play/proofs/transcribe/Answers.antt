@@ -1,5 +1,4 @@
 -- `play::transcribe` meets its contract: every transcript fits the room that it asks for.
-use borrow.Author.Rules.{rules}
 use Rattle.play.proofs.Lengths.{nothing_left_off}
 use Rattle.play.proofs.transcribe.Goals as goal
 

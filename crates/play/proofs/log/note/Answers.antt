@@ -1,5 +1,4 @@
 -- `play::log::note` meets its contract: the size is noted behind the flow.
-use borrow.Author.Rules.{rules}
 use mathlib.Core.List.{[], ◌∷◌}
 use Rattle.print.proofs.PageLaws.{put_behind}
 use Rattle.play.proofs.log.note.Goals as goal

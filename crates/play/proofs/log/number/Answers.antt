@@ -1,5 +1,4 @@
 -- `play::log::number` meets its contract: it stores where there is room.
-use borrow.Author.Rules.{rules}
 use Rattle.print.proofs.PageLaws.{byte_fits, byte_left_off}
 use Rattle.play.proofs.log.number.Goals as goal
 

@@ -1,5 +1,4 @@
 -- `play::report::bad_line` meets its contract.
-use borrow.Author.Rules.{rules}
 use Rattle.play.proofs.ReportLaws.{bad_printed}
 use Rattle.play.proofs.report.bad_line.Goals as goal
 

@@ -1,5 +1,4 @@
 -- `play::report::idle_line` meets its contract.
-use borrow.Author.Rules.{rules}
 use Rattle.play.proofs.ReportLaws.{idle_printed}
 use Rattle.play.proofs.report.idle_line.Goals as goal
 

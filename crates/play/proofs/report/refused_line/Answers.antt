@@ -1,5 +1,4 @@
 -- `play::report::refused_line` meets its contract.
-use borrow.Author.Rules.{rules}
 use Rattle.play.proofs.ReportLaws.{refused_printed}
 use Rattle.play.proofs.report.refused_line.Goals as goal
 

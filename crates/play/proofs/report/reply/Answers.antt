@@ -1,5 +1,4 @@
 -- `play::report::reply` meets its contract: each field is put behind the one before it.
-use borrow.Author.Rules.{rules}
 use Rattle.play.proofs.ReportLaws.{reply_printed}
 use Rattle.play.proofs.report.reply.Goals as goal
 

@@ -1,5 +1,4 @@
 -- `play::report::sent_line` meets its contract.
-use borrow.Author.Rules.{rules}
 use Rattle.play.proofs.ReportLaws.{sent_printed}
 use Rattle.play.proofs.report.sent_line.Goals as goal
 

@@ -1,0 +1,10 @@
+-- Every byte is 0.
+use borrow.Author.Rules.{rules}
+use Prim.Native.Nat.{ℕ}
+use mathlib.Core.Path.{ap, ◌∙◌}
+use lib.ListN.{replicate}
+use Rattle.houghbreeze.proofs.ResetLaws.{site_reset_passes}
+use Rattle.houghbreeze.proofs.hb_site_reset.Goals as goal
+
+pub returns : goal.returns
+returns c = site_reset_passes (c.clear.ensures ∙ ap (λ (n : ℕ). replicate n 0) c.counted.ensures)

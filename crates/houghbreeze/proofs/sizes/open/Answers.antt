@@ -1,0 +1,22 @@
+-- The bytes of the state are lent, and the round stays as it was.
+use borrow.Author.Rules.{rules}
+use native.Mathlib.Omega.{arith}
+use mathlib.Core.Path.{sym}
+use Rattle.image.proofs.ImageLaws.{sound_image_length}
+use Rattle.houghbreeze.proofs.SizesLaws.{cells_lent, lent_sound, open_passes}
+use Rattle.houghbreeze.proofs.sizes.open.Goals as goal
+
+pub round_at-round-requires : goal.round_at-round-requires
+round_at-round-requires c = sound_image_length c.requires
+
+pub slice_bounds-open-end : goal.slice_bounds-open-end
+slice_bounds-open-end c = omega (arith, sound_image_length c.requires)
+
+pub slice_bounds-open-end-2 : goal.slice_bounds-open-end-2
+slice_bounds-open-end-2 c = sym (cells_lent c.args.bytes.now c.requires)
+
+pub returns : goal.returns
+returns c =
+    let «open» = c.open-answer in
+    open_passes c.args.bytes.now c.requires c.round_at-round.result c.round_at-round.ensures c.args.f c.args.weight «open».new.cells
+    «open».result «open».ensures c.of_answer.result c.of_answer.ensures
