@@ -1,9 +1,5 @@
 -- `shares::Shares::with` meets its contract. The loop's invariant: whatever departures the log is one of, so many of them are counted. The measure is
-use borrow.Author.Rules.{rules}
-use Prim.Native.Nat.{◌-◌}
-use native.Mathlib.Omega.{arith}
-use lib.ListN.{length}
-use Rattle.shares.proofs.ReadLaws.{Reads, reads_begin, flows_are, total_is, next, reads_on, reads_end}
+use Rattle.shares.proofs.ReadLaws.{reads_begin, flows_are, total_is, next, reads_on, reads_end}
 use Rattle.shares.proofs.Shares.with.Goals as goal
 
 pub loop-at-init : goal.loop-at-init
@@ -30,4 +26,4 @@ loop-at-preserved c =
     reads_on c.loop-at.invariant c.loop-at-test.true n.flow_small c.with_packet.ensures c.with_packet-total.ensures
 
 pub returns : goal.returns
-returns c = reads_end c.loop-at.invariant c.loop-at-test.false before more (flows_are before e) (total_is before e)
+returns c before more e = reads_end c.loop-at.invariant c.loop-at-test.false before more (flows_are before e) (total_is before e)

@@ -1,9 +1,7 @@
 -- `shares::Shares::with` meets its contract. The loop's invariant: whatever departures the log is one of, so many of them are counted. The measure is
-use borrow.Author.Rules.{rules}
 use Prim.Native.Nat.{◌-◌}
-use native.Mathlib.Omega.{arith}
 use lib.ListN.{length}
-use Rattle.shares.proofs.ReadLaws.{Reads, reads_begin, flows_are, total_is, next, reads_on, reads_end}
+use Rattle.shares.proofs.ReadLaws.{Reads}
 use Rattle.shares.proofs.Shares.with.Given as goal
 
 abbrev pub invariant-loop-at : goal.invariant-loop-at
