@@ -1,5 +1,4 @@
 -- Every byte is 0.
-use borrow.Author.Rules.{rules}
 use Prim.Native.Nat.{ℕ}
 use mathlib.Core.Path.{ap, ◌∙◌}
 use lib.ListN.{replicate}

@@ -1,5 +1,4 @@
 -- The lengths lent refuse; or a call on sizes is made, and the bytes are copied from the place that it tells.
-use borrow.Author.Rules.{rules}
 use Rattle.store.proofs.SiteLaws.{departure_lengths_right}
 use Rattle.houghbreeze.specs.Promised.{site_in}
 use Rattle.houghbreeze.proofs.SiteLaws.{site_departure_refused, may_read, site_departure_passes}

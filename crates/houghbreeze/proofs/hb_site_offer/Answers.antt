@@ -1,5 +1,4 @@
 -- The lengths lent refuse; or a call on sizes is made, and a packet that it takes is written in the slot that it tells.
-use borrow.Author.Rules.{rules}
 use Rattle.store.proofs.SiteLaws.{offer_lengths_right}
 use Rattle.houghbreeze.specs.Promised.{site_in}
 use Rattle.houghbreeze.proofs.SiteLaws.{site_offer_refused, may_write, site_offer_written, site_offer_not_written}

@@ -1,5 +1,4 @@
 -- What a call on sizes gives, a site gives.
-use borrow.Author.Rules.{rules}
 use Rattle.houghbreeze.proofs.SiteLaws.{site_open_passes}
 use Rattle.houghbreeze.proofs.hb_site_open.Goals as goal
 

@@ -1,9 +1,8 @@
 -- The bytes of the state are lent, and the length of the line is stored.
-use borrow.Author.Rules.{rules}
 use native.Mathlib.Omega.{arith}
 use mathlib.Core.Path.{sym}
 use Rattle.image.proofs.ImageLaws.{sound_image_length}
-use Rattle.houghbreeze.proofs.SizesLaws.{cells_lent, lent_sound, offer_slot, length_lies, offer_passes}
+use Rattle.houghbreeze.proofs.SizesLaws.{cells_lent, offer_slot, length_lies, offer_passes}
 use Rattle.houghbreeze.proofs.sizes.offer.Goals as goal
 
 pub round_at-round-requires : goal.round_at-round-requires

@@ -1,9 +1,8 @@
 -- The bytes of the state are lent, and the round stays as it was.
-use borrow.Author.Rules.{rules}
 use native.Mathlib.Omega.{arith}
 use mathlib.Core.Path.{sym}
 use Rattle.image.proofs.ImageLaws.{sound_image_length}
-use Rattle.houghbreeze.proofs.SizesLaws.{cells_lent, lent_sound, open_passes}
+use Rattle.houghbreeze.proofs.SizesLaws.{cells_lent, open_passes}
 use Rattle.houghbreeze.proofs.sizes.open.Goals as goal
 
 pub round_at-round-requires : goal.round_at-round-requires
