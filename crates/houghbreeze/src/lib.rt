@@ -1,5 +1,5 @@
-// The calls for firmware, as include/houghbreeze.h declares them. An image is lent and changed in place; a reply is handed back by value. The calls on
-// bytes are the calls on sizes, with the packet's bytes moved beside them.
+// The calls for firmware, as include/houghbreeze.h declares them and crate houghbreeze_c exports them. An image is lent and changed in place; a reply is
+// handed back by value. The calls on bytes are the calls on sizes, with the packet's bytes moved beside them.
 #![tactic(auto)]
 
 ghost use Rattle.image.specs.Image.{SoundImage};
@@ -10,64 +10,56 @@ use store::{lengths, slots};
 
 mod sizes;
 
-#[unsafe(no_mangle)]
-pub extern "C" fn hb_reset(s: &mut [u8; IMAGE])
+pub fn hb_reset(s: &mut [u8; IMAGE])
     ensures { ResetGives s.new }
 {
     image::counted(*s);
     image::clear(s);
 }
 
-#[unsafe(no_mangle)]
-pub extern "C" fn hb_open(s: &mut [u8; IMAGE], flow: usize, weight: usize) -> HbReply
+pub fn hb_open(s: &mut [u8; IMAGE], flow: usize, weight: usize) -> HbReply
     requires { SoundImage s.old }
     ensures { OpenGives s.old flow weight s.new result }
 {
     sizes::open(s, flow, weight)
 }
 
-#[unsafe(no_mangle)]
-pub extern "C" fn hb_offer(s: &mut [u8; IMAGE], flow: usize, size: usize) -> HbReply
+pub fn hb_offer(s: &mut [u8; IMAGE], flow: usize, size: usize) -> HbReply
     requires { SoundImage s.old }
     ensures { OfferGives s.old flow size s.new result }
 {
     sizes::offer(s, flow, size)
 }
 
-#[unsafe(no_mangle)]
-pub extern "C" fn hb_depart(s: &mut [u8; IMAGE]) -> HbReply
+pub fn hb_depart(s: &mut [u8; IMAGE]) -> HbReply
     requires { SoundImage s.old }
     ensures { DepartGives s.old s.new result }
 {
     sizes::depart(s)
 }
 
-#[unsafe(no_mangle)]
-pub extern "C" fn hb_burst(s: &mut [u8; IMAGE], n: usize, list: &mut [u8]) -> HbReply
+pub fn hb_burst(s: &mut [u8; IMAGE], n: usize, list: &mut [u8]) -> HbReply
     requires { SoundImage s.old }
     ensures { BurstGives s.old n list.old list.new s.new result }
 {
     sizes::burst(s, n, list)
 }
 
-#[unsafe(no_mangle)]
-pub extern "C" fn hb_site_reset(s: &mut [u8; IMAGE])
+pub fn hb_site_reset(s: &mut [u8; IMAGE])
     ensures { SiteResetGives s.new }
 {
     image::counted(*s);
     image::clear(s);
 }
 
-#[unsafe(no_mangle)]
-pub extern "C" fn hb_site_open(s: &mut [u8; IMAGE], flow: usize, weight: usize) -> HbReply
+pub fn hb_site_open(s: &mut [u8; IMAGE], flow: usize, weight: usize) -> HbReply
     requires { SoundImage s.old }
     ensures { SiteOpenGives s.old flow weight s.new result }
 {
     hb_open(s, flow, weight)
 }
 
-#[unsafe(no_mangle)]
-pub extern "C" fn hb_site_offer(
+pub fn hb_site_offer(
     s: &mut [u8; IMAGE],
     flow: usize,
     packet: &[u8],
@@ -87,8 +79,7 @@ pub extern "C" fn hb_site_offer(
     r
 }
 
-#[unsafe(no_mangle)]
-pub extern "C" fn hb_site_depart(s: &mut [u8; IMAGE], store: &[u8], out: &mut [u8]) -> HbReply
+pub fn hb_site_depart(s: &mut [u8; IMAGE], store: &[u8], out: &mut [u8]) -> HbReply
     requires { SoundImage s.old }
     ensures { SiteDepartGives s.old store.now out.old out.new s.new result }
 {
