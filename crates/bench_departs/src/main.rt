@@ -22,13 +22,16 @@ fn departs(n: u64) -> u32 {
     check
 }
 
-fn main() {
-    let n = words::number(1, words::RUN_LIMIT);
-    if os::arg_count() == 2 {
+fn main(rt: HostRuntime) {
+    let n = words::number(&rt, 1, words::RUN_LIMIT);
+    if words::arg_count(&rt) == 2 {
         if 0 < n {
-            words::show(departs(n));
+            words::show(&rt, departs(n));
             return;
         }
     }
-    words::usage(b"usage: bench_departs N   N from 1 to 999999999999\n");
+    words::usage(
+        &rt.stderr(),
+        b"usage: bench_departs N   N from 1 to 999999999999\n",
+    );
 }

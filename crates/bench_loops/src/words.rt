@@ -1,7 +1,7 @@
 // The program's arguments as numbers, and what it prints.
 ghost use Rattle.std.specs.Prelude.{◌≤◌};
 
-use libc::{STDERR_FILENO, STDOUT_FILENO};
+use std::env::{Env, FillError};
 
 // The longest run that can be asked for. No number grows past it by more than one digit, so that none overflows.
 pub const RUN_LIMIT: u64 = 999999999999;
@@ -28,20 +28,31 @@ fn spelled(word: &[u8]) -> u64 {
 }
 
 // Argument i, where it is a number from 1 to `most`; otherwise 0.
-pub fn number(i: usize, most: u64) -> u64
+pub fn number<R: Env>(rt: &R, i: usize, most: u64) -> u64
     ensures { result ≤ most }
 {
     let mut buffer = [0u8; 20];
-    let length = os::arg(i, &mut buffer);
-    let value = spelled(&buffer[..length]);
+    let value = match rt.arg(i, &mut buffer) {
+        Ok(length) => spelled(&buffer[..length]),
+        Err(_) => 0,
+    };
     if value <= most { value } else { 0 }
 }
 
-pub fn usage(text: &[u8]) {
-    io::write_all(STDERR_FILENO, text);
+// How many arguments the program was started with, its own name among them.
+pub fn arg_count<R: Env>(rt: &R) -> usize {
+    for i in 0..usize::MAX {
+        if let Err(FillError::NotPresent) = rt.arg(i, &mut []) {
+            return i;
+        }
+    }
+    usize::MAX
 }
 
-pub fn show(check: u32) {
-    io::print_decimal(STDOUT_FILENO, check as u64);
-    io::write_all(STDOUT_FILENO, b"\n");
+pub fn usage<E: Print>(stderr: &E, text: &[u8]) {
+    let _ = stderr.write_all(text);
+}
+
+pub fn show<R: Print>(rt: &R, check: u32) {
+    let _ = rt.println(check);
 }

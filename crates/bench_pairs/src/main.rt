@@ -64,16 +64,19 @@ fn pairs(flows: usize, n: u64) -> u32
     check
 }
 
-fn main() {
-    let flows = words::number(1, FLOW_LIMIT as u64) as usize;
-    let n = words::number(2, words::RUN_LIMIT);
-    if os::arg_count() == 3 {
+fn main(rt: HostRuntime) {
+    let flows = words::number(&rt, 1, FLOW_LIMIT as u64) as usize;
+    let n = words::number(&rt, 2, words::RUN_LIMIT);
+    if words::arg_count(&rt) == 3 {
         if 0 < flows {
             if 0 < n {
-                words::show(pairs(flows, n));
+                words::show(&rt, pairs(flows, n));
                 return;
             }
         }
     }
-    words::usage(b"usage: bench_pairs FLOWS N   FLOWS from 1 to 32, N from 1 to 999999999999\n");
+    words::usage(
+        &rt.stderr(),
+        b"usage: bench_pairs FLOWS N   FLOWS from 1 to 32, N from 1 to 999999999999\n",
+    );
 }

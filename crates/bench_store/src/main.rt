@@ -7,7 +7,7 @@ ghost use Rattle.store.specs.Promised.{SoundSite};
 
 use bench_loops::{sums, words};
 use model::{Answer, Reply, SIZE_LIMIT};
-use store::Site;
+use store::{STORE_LENGTH, Site};
 
 const FLOWS: usize = 4;
 
@@ -80,7 +80,7 @@ fn pairs(size: usize, n: u64) -> u32
 {
     let mut site = opened();
     let mut packet = filled();
-    let mut store = io::large_buffer();
+    let mut store = [0u8; STORE_LENGTH];
     let mut out = [0u8; SIZE_LIMIT];
     let mut check: u32 = 0;
     let mut i: u64 = 0;
@@ -99,16 +99,19 @@ fn pairs(size: usize, n: u64) -> u32
     check
 }
 
-fn main() {
-    let size = words::number(1, SIZE_LIMIT as u64) as usize;
-    let n = words::number(2, words::RUN_LIMIT);
-    if os::arg_count() == 3 {
+fn main(rt: HostRuntime) {
+    let size = words::number(&rt, 1, SIZE_LIMIT as u64) as usize;
+    let n = words::number(&rt, 2, words::RUN_LIMIT);
+    if words::arg_count(&rt) == 3 {
         if 0 < size {
             if 0 < n {
-                words::show(pairs(size, n));
+                words::show(&rt, pairs(size, n));
                 return;
             }
         }
     }
-    words::usage(b"usage: bench_store LEN N   LEN from 1 to 256, N from 1 to 999999999999\n");
+    words::usage(
+        &rt.stderr(),
+        b"usage: bench_store LEN N   LEN from 1 to 256, N from 1 to 999999999999\n",
+    );
 }

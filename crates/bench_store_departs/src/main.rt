@@ -5,7 +5,7 @@ ghost use Rattle.store.specs.Promised.{SoundSite};
 
 use bench_loops::{FULL, SENT, sums, words};
 use model::{FLOW_LIMIT, QUEUE_LIMIT, SIZE_LIMIT};
-use store::Site;
+use store::{STORE_LENGTH, Site};
 
 // Every flow open, by weights of 1 to 4.
 fn opened() -> Site
@@ -37,7 +37,7 @@ fn filled(store: &mut [u8]) -> Site
 }
 
 fn departs(n: u64) -> u32 {
-    let mut store = io::large_buffer();
+    let mut store = [0u8; STORE_LENGTH];
     let full = filled(&mut store);
     let mut out = [0u8; SIZE_LIMIT];
     let mut check: u32 = 0;
@@ -58,13 +58,16 @@ fn departs(n: u64) -> u32 {
     check
 }
 
-fn main() {
-    let n = words::number(1, words::RUN_LIMIT);
-    if os::arg_count() == 2 {
+fn main(rt: HostRuntime) {
+    let n = words::number(&rt, 1, words::RUN_LIMIT);
+    if words::arg_count(&rt) == 2 {
         if 0 < n {
-            words::show(departs(n));
+            words::show(&rt, departs(n));
             return;
         }
     }
-    words::usage(b"usage: bench_store_departs N   N from 1 to 999999999999\n");
+    words::usage(
+        &rt.stderr(),
+        b"usage: bench_store_departs N   N from 1 to 999999999999\n",
+    );
 }

@@ -1,4 +1,5 @@
 // The program's arguments as numbers.
+use std::env::{Env, FillError};
 
 // The largest seed, and the most calls.
 const LARGEST: u64 = 4294967295;
@@ -34,8 +35,20 @@ fn spelled(word: &[u8]) -> Word {
 }
 
 // Argument i. One that is missing, or longer than a number can be, spells nothing.
-pub fn argument(i: usize) -> Word {
+pub fn argument<R: Env>(rt: &R, i: usize) -> Word {
     let mut buffer = [0u8; 10];
-    let length = os::arg(i, &mut buffer);
-    spelled(&buffer[..length])
+    match rt.arg(i, &mut buffer) {
+        Ok(length) => spelled(&buffer[..length]),
+        Err(_) => Word::Other,
+    }
+}
+
+// How many arguments the program was started with, its own name among them.
+pub fn arg_count<R: Env>(rt: &R) -> usize {
+    for i in 0..usize::MAX {
+        if let Err(FillError::NotPresent) = rt.arg(i, &mut []) {
+            return i;
+        }
+    }
+    usize::MAX
 }

@@ -87,7 +87,7 @@ fn made(check: u32, state: State, call: Call, list: &mut [u8]) -> Step
 }
 
 // Makes the calls on a new state, and gives how often each reply was given. Bursts are lent the first bytes of the list.
-pub fn run(part: &[u8], seed: u32, calls: u64, list: &mut [u8]) -> [u64; COUNTS] {
+pub fn run<R: Print>(rt: &R, part: &[u8], seed: u32, calls: u64, list: &mut [u8]) -> [u64; COUNTS] {
     let mut counts = [0u64; COUNTS];
     let mut state = State::new();
     let mut x = start(seed);
@@ -100,7 +100,7 @@ pub fn run(part: &[u8], seed: u32, calls: u64, list: &mut [u8]) -> [u64; COUNTS]
         let step = made(check, state, call, list);
         state = step.state;
         let folded = step.folded;
-        check = sums::counted(&mut counts, folded, part, n, calls, list);
+        check = sums::counted(rt, &mut counts, folded, part, n, calls, list);
     }
     counts
 }

@@ -1,6 +1,5 @@
 // The checksum of what calls reply, and how often each reply was given.
 use crate::lines::{check_line, named};
-use libc::STDOUT_FILENO;
 use model::{Answer, Count, Reply, Sent};
 
 // The numbers of replies: a refusal has document 01's, 1 to 9.
@@ -113,7 +112,8 @@ pub fn departed_into(check: u32, reply: Reply, out: &[u8]) -> Folded {
 
 // Call n is counted. After every 1,000 calls and after the last, all bytes of a buffer that is kept from call to call are folded, and a line is
 // printed. Gives the checksum.
-pub fn counted(
+pub fn counted<R: Print>(
+    rt: &R,
     counts: &mut [u64; COUNTS],
     folded: Folded,
     part: &[u8],
@@ -131,18 +131,18 @@ pub fn counted(
         }
     }
     let check = fold_all(folded.check, kept);
-    check_line(part, n, check);
+    check_line(rt, part, n, check);
     check
 }
 
 // The counts of replies 1 to 15.
-pub fn print_counts(part: &[u8], counts: &[u64; COUNTS]) {
-    io::write_all(STDOUT_FILENO, part);
-    io::write_all(STDOUT_FILENO, b" replies");
+pub fn print_counts<R: Print>(rt: &R, part: &[u8], counts: &[u64; COUNTS]) {
+    let _ = rt.write_all(part);
+    let _ = rt.write_all(b" replies");
     let mut k: usize = 1;
     while k < COUNTS {
-        named(b" ", counts[k]);
+        named(rt, b" ", counts[k]);
         k += 1;
     }
-    io::write_all(STDOUT_FILENO, b"\n");
+    let _ = rt.write_all(b"\n");
 }

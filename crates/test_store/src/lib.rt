@@ -81,7 +81,14 @@ fn made(check: u32, site: Site, call: Call, store: &mut [u8], out: &mut [u8]) ->
 }
 
 // Makes the calls on a new site, and gives how often each reply was given. Calls are lent the first bytes of the store and of the outgoing buffer.
-pub fn run(part: &[u8], seed: u32, calls: u64, store: &mut [u8], out: &mut [u8]) -> [u64; COUNTS] {
+pub fn run<R: Print>(
+    rt: &R,
+    part: &[u8],
+    seed: u32,
+    calls: u64,
+    store: &mut [u8],
+    out: &mut [u8],
+) -> [u64; COUNTS] {
     let mut counts = [0u64; COUNTS];
     let mut site = Site::new();
     let mut x = start(seed);
@@ -94,7 +101,7 @@ pub fn run(part: &[u8], seed: u32, calls: u64, store: &mut [u8], out: &mut [u8])
         let step = made(check, site, call, store, out);
         site = step.site;
         let folded = step.folded;
-        check = sums::counted(&mut counts, folded, part, n, calls, store);
+        check = sums::counted(rt, &mut counts, folded, part, n, calls, store);
     }
     counts
 }
