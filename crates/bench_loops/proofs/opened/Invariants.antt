@@ -1,3 +1,4 @@
+-- Every open is made on a sound state.
 use Rattle.std.proofs.Common.{◌-◌}
 use Rattle.order.specs.Encoding.{Sound}
 use Rattle.bench_loops.proofs.opened.Given as goal

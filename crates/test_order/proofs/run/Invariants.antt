@@ -1,8 +1,8 @@
+-- Every call is made on a sound state.
 use Rattle.std.proofs.Common.{◌-◌}
 use Rattle.order.specs.Encoding.{Sound}
 use Rattle.test_order.proofs.run.Given as goal
 
--- Every call is made on a sound state.
 abbrev pub invariant-loop-n : goal.invariant-loop-n
 invariant-loop-n g l = Sound l.state
 

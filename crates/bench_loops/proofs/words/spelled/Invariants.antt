@@ -1,3 +1,4 @@
+-- What is left of the word shrinks.
 use Rattle.std.proofs.Common.{◌-◌, length}
 use Rattle.bench_loops.proofs.words.spelled.Given as goal
 

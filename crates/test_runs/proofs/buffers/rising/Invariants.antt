@@ -1,3 +1,4 @@
+-- What is left of the buffer shrinks.
 use Rattle.std.proofs.Common.{◌-◌, length}
 use Rattle.test_runs.proofs.buffers.rising.Given as goal
 

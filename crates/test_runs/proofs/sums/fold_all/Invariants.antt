@@ -1,3 +1,4 @@
+-- What is left of the bytes shrinks.
 use Rattle.std.proofs.Common.{◌-◌, length}
 use Rattle.test_runs.proofs.sums.fold_all.Given as goal
 
