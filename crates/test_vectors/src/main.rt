@@ -5,40 +5,48 @@
 ghost use Rattle.intake.specs.Intake.{Within};
 
 use intake::Intake;
-use libc::STDOUT_FILENO;
 use play::{INPUT_LIMIT, OUTPUT_LIMIT};
+use std::env::{Env, FillError};
+use std::fs::File;
+use std::io::{Print, Write};
+use std::rt::Files;
+use std::{io, str};
 
-fn main() {
-    let count = os::arg_count();
-    let mut i = 1;
-    while i < count {
-        compare(i);
-        i += 1;
+// So many bytes hold any path.
+const PATH_LIMIT: usize = 4_096;
+
+fn main(rt: HostRuntime) {
+    // the first argument is the program's own name
+    for i in 1..usize::MAX {
+        let mut name = [0u8; PATH_LIMIT];
+        match rt.arg(i, &mut name) {
+            Ok(length) => compare(&rt, &name[..length]),
+            Err(FillError::TooLong) => compare(&rt, b""),
+            Err(FillError::NotPresent) => return,
+        }
     }
 }
 
-// The vector that this argument names.
-fn compare(i: usize) {
-    let mut buffer = io::buffer();
-    let length = os::arg(i, &mut buffer);
-    let name = &buffer[..length];
-    io::write_all(STDOUT_FILENO, name);
-    if agrees(name) {
-        io::write_all(STDOUT_FILENO, b" same\n");
+// The vector of this name.
+fn compare<R: Files + Print>(rt: &R, name: &[u8]) {
+    let mut out = io::writer(rt);
+    let _ = out.write_all(name);
+    if agrees(rt, name) {
+        let _ = out.write_all(b" same\n");
     } else {
-        io::write_all(STDOUT_FILENO, b" differs\n");
+        let _ = out.write_all(b" differs\n");
     }
 }
 
-fn agrees(name: &[u8]) -> bool {
+fn agrees<R: Files>(rt: &R, name: &[u8]) -> bool {
     // one byte more than an input may have, to find one that is too long
     let mut input = [0u8; INPUT_LIMIT + 1];
-    let Intake::Bytes(length) = contents(name, b".in", &mut input) else {
+    let Intake::Bytes(length) = contents(rt, name, b".in", &mut input) else {
         return false;
     };
     // one byte more than a transcript may have, to find an output that is longer
     let mut recorded = [0u8; OUTPUT_LIMIT + 1];
-    let Intake::Bytes(end) = contents(name, b".out", &mut recorded) else {
+    let Intake::Bytes(end) = contents(rt, name, b".out", &mut recorded) else {
         return false;
     };
     let mut out = [0u8; OUTPUT_LIMIT];
@@ -47,22 +55,22 @@ fn agrees(name: &[u8]) -> bool {
 }
 
 // What the file of this name and ending has.
-fn contents(name: &[u8], ending: &[u8], buffer: &mut [u8]) -> Intake
+fn contents<R: Files>(rt: &R, name: &[u8], ending: &[u8], buffer: &mut [u8]) -> Intake
     ensures { Within result buffer.new }
 {
-    let mut path = io::buffer();
+    let mut path = [0u8; PATH_LIMIT];
     let dot = name.len();
     let end = dot + ending.len();
     if path.len() < end {
         return Intake::Failed;
     }
-    bytes::copy(name, &mut path);
-    bytes::copy(ending, &mut path[dot..]);
-    let file = os::open_read(&path[..end]);
-    if file < 0 {
+    path[..dot].copy_from_slice(name);
+    path[dot..end].copy_from_slice(ending);
+    let Ok(path) = str::from_utf8(&path[..end]) else {
         return Intake::Failed;
-    }
-    let found = intake::whole(file, buffer);
-    libc::close(file);
-    found
+    };
+    let Ok(mut file) = File::open(rt, path) else {
+        return Intake::Failed;
+    };
+    intake::whole(&mut file, buffer)
 }

@@ -1,2 +1,0 @@
--- For a caller that lends on what was read.
-pub mod Lent
