@@ -11,9 +11,19 @@ ghost use Rattle.sheet_text.specs.Sheet.{remark_limit};
 ghost use Rattle.sheet.specs.Made.{JudgesASite, RemarksASite, MakesASheet};
 
 use intake::Intake;
-use libc::{ENAMETOOLONG, STDOUT_FILENO};
 use play::{INPUT_LIMIT, OUTPUT_LIMIT};
+use std::env::{Env, FillError};
+use std::fs::File;
+use std::io::{Print, Write};
+use std::rt::Files;
+use std::{io, str};
 use week::{Judged, SITE_LIMIT, Verdict, Week};
+
+// So many bytes hold any path.
+const PATH_LIMIT: usize = 4_096;
+
+// Room for the sums.
+const SUMS: usize = 4_096;
 
 // Room for a remark on every site: a name of 4,096 bytes, and what is said of it.
 const REMARKS: usize = SITE_LIMIT * 4_352;
@@ -25,51 +35,57 @@ struct Made {
     past: usize,
 }
 
-fn main() {
+fn main(rt: HostRuntime) {
     // the first argument is the program's own name
-    let given = os::arg_count();
+    let given = argument_count(&rt);
     if given < 2 {
-        io::write_all(STDOUT_FILENO, b"sheet: no files named");
-        return usage();
+        let _ = print!(rt; "sheet: no files named");
+        return usage(&rt);
     }
     let names = given - 1;
     let sites = names / 2;
     if names % 2 == 1 {
-        io::write_all(STDOUT_FILENO, b"sheet: an odd number of names, ");
-        io::print_decimal(STDOUT_FILENO, names as u64);
-        return usage();
+        let _ = print!(rt; "sheet: an odd number of names, {names}");
+        return usage(&rt);
     }
     if SITE_LIMIT < sites {
-        io::write_all(STDOUT_FILENO, b"sheet: ");
-        io::print_decimal(STDOUT_FILENO, sites as u64);
-        io::write_all(STDOUT_FILENO, b" sites named, 64 at most");
-        return usage();
+        let _ = print!(rt; "sheet: {sites} sites named, 64 at most");
+        return usage(&rt);
     }
-    sheet(sites);
+    sheet(&rt, sites);
+}
+
+// How many arguments the program was started with: the runtime tells only of each whether it is there.
+fn argument_count<R: Env>(rt: &R) -> usize {
+    let mut start = [0u8; 1];
+    for i in 0..usize::MAX {
+        if let Err(FillError::NotPresent) = rt.arg(i, &mut start) {
+            return i;
+        }
+    }
+    usize::MAX
 }
 
 // The end of a line that refuses.
-fn usage() {
-    io::write_all(
-        STDOUT_FILENO,
-        b"; name EVENTS OUTPUT for each site, 1 to 64 sites\n",
-    );
+fn usage<R: Print>(rt: &R) {
+    let _ = print!(rt; "; name EVENTS OUTPUT for each site, 1 to 64 sites\n");
 }
 
 // The sheet of so many sites.
-fn sheet(sites: usize)
+fn sheet<R: Env + Files + Print>(rt: &R, sites: usize)
     requires { sites ≤ site_limit }
 {
     let mut remarks = remarks_buffer();
     let mut events = events_buffer();
     let mut output = output_buffer();
-    let made = judged_all(sites, &mut remarks, &mut events, &mut output);
+    let made = judged_all(rt, sites, &mut remarks, &mut events, &mut output);
     let week = made.week;
     let past = made.past;
-    let mut sums = io::buffer();
+    let mut sums = [0u8; SUMS];
     let written = sheet_text::sums(&mut sums, week);
-    io::write_all(STDOUT_FILENO, &sums[..written]);
-    io::write_all(STDOUT_FILENO, &remarks[..past]);
+    let mut out = io::writer(rt);
+    let _ = out.write_all(&sums[..written]);
+    let _ = out.write_all(&remarks[..past]);
 }
 
 // Zeros for the remarks and for the two files of a site; these one byte longer than what counts, to find a file that is longer. The contracts give the
@@ -93,7 +109,13 @@ fn output_buffer() -> [u8; OUTPUT_LIMIT + 1]
 }
 
 // So many sites, one after the other, with what is remarked of them. Two buffers are lent for their files.
-fn judged_all(sites: usize, remarks: &mut [u8], events: &mut [u8], output: &mut [u8]) -> Made
+fn judged_all<R: Env + Files>(
+    rt: &R,
+    sites: usize,
+    remarks: &mut [u8],
+    events: &mut [u8],
+    output: &mut [u8],
+) -> Made
     requires sites_le_site_limit { sites ≤ site_limit }
     requires remark_limit_in_bounds { site_limit * remark_limit ≤ length remarks.old }
     requires input_limit_in_bounds { input_limit < length events.old }
@@ -104,18 +126,24 @@ fn judged_all(sites: usize, remarks: &mut [u8], events: &mut [u8], output: &mut 
     let mut past = 0;
     let mut site = 0;
     while site < sites {
-        let judged = judge(week, site, events, output);
+        let judged = judge(rt, week, site, events, output);
         let next = judged.week;
         let verdict = judged.verdict;
         site += 1;
-        past = remark(remarks, past, site, verdict);
+        past = remark(rt, remarks, past, site, verdict);
         week = next;
     }
     Made { week, past }
 }
 
 // The site behind the first so many.
-fn judge(week: Week, before: usize, events: &mut [u8], output: &mut [u8]) -> Judged
+fn judge<R: Env + Files>(
+    rt: &R,
+    week: Week,
+    before: usize,
+    events: &mut [u8],
+    output: &mut [u8],
+) -> Judged
     requires sound { Sound week }
     requires sites_value { week.sites ≡ before }
     requires before_lt_site_limit { before < site_limit }
@@ -123,14 +151,14 @@ fn judge(week: Week, before: usize, events: &mut [u8], output: &mut [u8]) -> Jud
     requires output_limit_in_bounds { output_limit < length output.old }
     ensures { JudgesASite week result }
 {
-    let Intake::Bytes(lines) = contents(2 * before + 1, events) else {
+    let Intake::Bytes(lines) = contents(rt, 2 * before + 1, events) else {
         let more = week.with_unread();
         return Judged {
             week: more,
             verdict: Verdict::EventsUnread,
         };
     };
-    let Intake::Bytes(printed) = contents(2 * before + 2, output) else {
+    let Intake::Bytes(printed) = contents(rt, 2 * before + 2, output) else {
         let more = week.with_unread();
         return Judged {
             week: more,
@@ -141,29 +169,32 @@ fn judge(week: Week, before: usize, events: &mut [u8], output: &mut [u8]) -> Jud
 }
 
 // What the file has that an argument names.
-fn contents(i: usize, buffer: &mut [u8]) -> Intake
+fn contents<R: Env + Files>(rt: &R, i: usize, buffer: &mut [u8]) -> Intake
     ensures { Within result buffer.new }
 {
-    let mut name = io::buffer();
-    let length = os::arg(i, &mut name);
-    let file = os::open_read(&name[..length]);
-    if file < 0 {
+    let mut name = [0u8; PATH_LIMIT];
+    let Ok(length) = rt.arg(i, &mut name) else {
         return Intake::Failed;
-    }
-    let found = intake::whole(file, buffer);
-    libc::close(file);
-    found
+    };
+    let Ok(path) = str::from_utf8(&name[..length]) else {
+        return Intake::Failed;
+    };
+    let Ok(mut file) = File::open(rt, path) else {
+        return Intake::Failed;
+    };
+    intake::whole(&mut file, buffer)
 }
 
 // The remark on a site, with the name of its output. Of a name that is too long for any file, as much is shown as the buffer holds.
-fn remark(remarks: &mut [u8], at: usize, site: usize, verdict: Verdict) -> usize
+fn remark<R: Env>(rt: &R, remarks: &mut [u8], at: usize, site: usize, verdict: Verdict) -> usize
     requires { site ≤ site_limit }
     ensures { RemarksASite site verdict remarks.old at remarks.new result }
 {
-    let mut name = io::buffer();
-    let length = os::arg(2 * site, &mut name);
-    if os::errno() == ENAMETOOLONG {
-        return sheet_text::remark(remarks, at, site, verdict, &name);
-    }
+    let mut name = [0u8; PATH_LIMIT];
+    let length = match rt.arg(2 * site, &mut name) {
+        Ok(length) => length,
+        Err(FillError::TooLong) => PATH_LIMIT,
+        Err(FillError::NotPresent) => 0,
+    };
     sheet_text::remark(remarks, at, site, verdict, &name[..length])
 }
