@@ -1,5 +1,5 @@
 -- The place lies within the buffer, which keeps its length; the measure is the room that is left.
-use Rattle.std.proofs.Common.{length, ◌-◌, ◌≡◌, ℕ, ◌≤◌}
+use Rattle.std.proofs.Common.{length, ◌-◌, ◌≤◌}
 use Rattle.intake.proofs.whole.Given as goal
 
 abbrev pub invariant-loop-at : goal.invariant-loop-at
