@@ -21,6 +21,7 @@ fn main(rt: HostRuntime) {
         let mut name = [0u8; PATH_LIMIT];
         match rt.arg(i, &mut name) {
             Ok(length) => compare(&rt, &name[..length]),
+            // a name that is too long for any file counts as an empty one
             Err(FillError::TooLong) => compare(&rt, b""),
             Err(FillError::NotPresent) => return,
         }
