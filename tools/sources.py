@@ -2,7 +2,7 @@
 import itertools
 import re
 
-MARKS = {"pub", "abbrev", "unfoldable", "axiom"}
+MARKS = {"pub", "abbrev", "unfoldable", "pattern", "axiom"}
 OPENERS = {"(": ")", "{": "}", "[": "]"}
 CLOSERS = set(OPENERS.values())
 
@@ -79,8 +79,8 @@ def items(tokens):
 
 
 def parts(name):
-    """The parts of an operator's name: `_then_` is written `then`."""
-    return [part for part in name.split("_") if part] if "_" in name and not name.startswith("«") else []
+    """The parts of an operator's name: `◌then◌` is written `then`."""
+    return [part for part in name.split("◌") if part] if "◌" in name else []
 
 
 class Declaration:
@@ -235,7 +235,7 @@ def signature(tokens):
 RT_TEXT = re.compile(r'//[^\n]*|/\*.*?\*/|b?"(?:\\.|[^"\\])*"|b?\'(?:\\.[^\']*|[^\'\\])\'', re.DOTALL)
 # an item begins a line; the "C" behind `extern` is quoted, and so made spaces
 RT_ITEM = re.compile(
-    r"^[ \t]*(?:#\[[^\]]*\]\s*)*(?P<public>pub\s+)?(?:extern\s+)?(?P<kind>fn|struct|enum|const|static|type|mod)\s+(?P<name>\w+)", re.MULTILINE
+    r"^[ \t]*(?:#\[[^\]]*\]\s*)*(?P<public>pub\s+)?(?:unsafe\s+)?(?:extern\s+)?(?P<kind>fn|struct|enum|const|static|type|mod)\s+(?P<name>\w+)", re.MULTILINE
 )
 
 
@@ -302,7 +302,7 @@ class RtFile:
         while first > 1 and rows[first - 2].strip().startswith("#["):
             first -= 1
         last = plain.count("\n", 0, end) + 1
-        lines = {row for row in range(first, last + 1) if rows[row - 1].strip()}
+        lines = {row for row in range(first, last + 1) if rows[row - 1].strip() and not rows[row - 1].strip().startswith("#[derive(")}
         body = plain[item.end() : end + 1]
         self.types[name] = RtItem(kind, name, body, lines)
         if kind == "struct":
@@ -328,7 +328,8 @@ class RtFile:
         return names
 
     def _contract(self, plain, begin, end):
-        for clause in re.finditer(r"\b(?:requires|ensures)\s*\{", plain[begin:end]):
+        # a clause may have a name, and a star where it speaks of memory
+        for clause in re.finditer(r"\b(?:requires|ensures)(?:\s*\*)?(?:\s+\w+)?\s*\{", plain[begin:end]):
             at = begin + clause.end() - 1
             self.contracts.append(plain[at + 1 : closing(plain, at)])
 
