@@ -1,6 +1,6 @@
 #!/bin/sh
 # Builds the reference and prints the path of the program. REFERENCE_TARGET may name another folder
-# for it than one below target/, which rt ci empties.
+# for it than one below target/.
 set -eu
 
 here=$(cd "$(dirname "$0")" && pwd)

@@ -54,7 +54,7 @@ check_recorded() {
 # check_seed SEED
 check_seed() {
     "$reference" calls "$1" 5000 >"$room/expected" || failed "seed $1: the reference failed"
-    ${emulator:+"$emulator"} "$program" "$1" 5000 >"$room/got" || failed "seed $1: the program failed"
+    "$program" "$1" 5000 >"$room/got" || failed "seed $1: the program failed"
     agree "seed $1" "$room/expected" "$room/got"
 }
 
@@ -71,7 +71,6 @@ program=$(readlink -f "$1")
 count=${2:-200}
 first=${3:-$(date +%s)}
 [ "$count" -ge 1 ] || failed "no runs are asked for"
-emulator=$("$here/emulator.sh")
 seed=$first
 while [ "$seed" -lt $((first + count)) ]; do
     check_seed "$seed"

@@ -17,11 +17,10 @@ replay=$(readlink -f "$1")
 count=${2:-4000}
 first=${3:-$(od -An -N4 -tu4 /dev/urandom | tr -d ' ')}
 
-emulator=$("$here/emulator.sh")
 reference=$("$here/build.sh")
 keep=$(mktemp -d)
 status=0
-"$reference" against "$first" "$count" "$keep" ${emulator:+"$emulator"} "$replay" || status=$?
+"$reference" against "$first" "$count" "$keep" "$replay" || status=$?
 # Removed unless a difference was left in it.
 rmdir "$keep" 2>/dev/null || true
 exit "$status"

@@ -17,11 +17,10 @@ program=$(readlink -f "$1")
 count=${2:-40}
 first=${3:-$(od -An -N4 -tu4 /dev/urandom | tr -d ' ')}
 
-emulator=$("$here/emulator.sh")
 reference=$("$here/build.sh")
 keep=$(mktemp -d)
 status=0
-"$reference" weeks "$first" "$count" "$keep" ${emulator:+"$emulator"} "$program" || status=$?
+"$reference" weeks "$first" "$count" "$keep" "$program" || status=$?
 # Removed unless a difference was left in it.
 rmdir "$keep" 2>/dev/null || true
 exit "$status"
