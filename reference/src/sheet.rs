@@ -15,7 +15,7 @@ use std::os::unix::ffi::OsStrExt;
 /// The most sites that one sheet takes.
 pub const SITES: usize = 64;
 
-/// A name longer than this names no file.
+/// A name longer than this names no file, and neither does one that is no UTF-8.
 const LONGEST_NAME: usize = 4_095;
 
 /// A line shows at most so many bytes of a name.
@@ -163,7 +163,7 @@ fn site(events: &OsStr, output: &OsStr) -> Site {
 
 /// The first bytes of a file, as many as are wanted.
 fn contents(name: &OsStr, wanted: usize) -> io::Result<Vec<u8>> {
-    if name.is_empty() || name.len() > LONGEST_NAME {
+    if name.is_empty() || name.len() > LONGEST_NAME || name.to_str().is_none() {
         return Err(io::Error::new(io::ErrorKind::NotFound, "names no file"));
     }
     let mut bytes = Vec::new();

@@ -13,7 +13,7 @@ pub const READ: &[&str] = &[
     "name like a line read",
     "name of two lines read",
     "name of all control bytes read",
-    "name of all bytes above 127 read",
+    "name of letters above 127 read",
     "name like an option read",
     "name of 255 bytes read",
     "name of 4095 bytes read",
@@ -26,7 +26,7 @@ pub const SHOWN: &[&str] = &[
     "name like a line shown",
     "name of two lines shown",
     "name of all control bytes shown",
-    "name of all bytes above 127 shown",
+    "name of letters above 127 shown",
     "name like an option shown",
     "name of 255 bytes shown",
     "name of 4095 bytes shown",
@@ -39,7 +39,7 @@ const STYLES: [fn(usize) -> Vec<u8>; 9] = [
     |number| format!("site={number} summed=no unread=events output=x").into_bytes(),
     |number| format!("{number}\nsites=9 of=9").into_bytes(),
     |number| [&plain(number)[..], &bytes(1..=31), &[127]].concat(),
-    |number| [&plain(number)[..], &bytes(128..=255)].concat(),
+    |number| [&plain(number)[..], letters_above_127().as_bytes()].concat(),
     |number| format!("--{number}").into_bytes(),
     |number| padded("x", plain(number), 255),
     |number| padded("./", plain(number), LONGEST),
@@ -54,6 +54,21 @@ pub fn draw(number: usize, random: &mut Random) -> (Vec<u8>, usize) {
 /// One byte longer than a name may be; shorter, it would name the file of that number.
 pub fn too_long_by_one(number: usize) -> Vec<u8> {
     padded("./", plain(number), LONGEST + 1)
+}
+
+/// All bytes above 127, which are no UTF-8 in this order.
+pub fn no_utf8(number: usize) -> Vec<u8> {
+    [&plain(number)[..], &bytes(128..=255)].concat()
+}
+
+/// Letters of two, three and four bytes, with every byte among them that begins such a letter.
+fn letters_above_127() -> String {
+    let two = (0x80..0x800).step_by(0x41);
+    let three = (0x800..0x1_0000).step_by(0x6c1);
+    let four = (0x1_0000..0x11_0000).step_by(0x3_0fc1);
+    let numbers = two.chain(three).chain(four);
+    // No letter has the numbers in between that UTF-16 keeps for itself.
+    numbers.filter_map(char::from_u32).collect()
 }
 
 /// More bytes than a line shows, none of them 0, which would end the word.

@@ -36,7 +36,7 @@ pub const RIGHT: [Kind; 9] = [
 ];
 
 /// Sites that are left out.
-pub const WRONG: [Kind; 29] = [
+pub const WRONG: [Kind; 31] = [
     ("byte changed", |maker| maker.damaged(damage::change_byte)),
     ("digit changed", |maker| maker.damaged(damage::change_digit)),
     ("line missing", |maker| maker.damaged(damage::drop_line)),
@@ -100,6 +100,12 @@ pub const WRONG: [Kind; 29] = [
     }),
     ("name of output too long by one byte", |maker| {
         maker.without_output(Maker::too_long_by_one)
+    }),
+    ("name of events that is no UTF-8", |maker| {
+        maker.without_events(Maker::no_utf8)
+    }),
+    ("name of output that is no UTF-8", |maker| {
+        maker.without_output(Maker::no_utf8)
     }),
     ("name of events far too long", |maker| {
         maker.without_events(Maker::far_too_long)
@@ -345,6 +351,14 @@ impl Maker {
         let there = names::plain(self.named);
         fs::write(OsStr::from_bytes(&there), "")?;
         Ok(File::unread(names::too_long_by_one(self.named)))
+    }
+
+    /// A file that is there, under a name that is no UTF-8.
+    fn no_utf8(&mut self) -> io::Result<File> {
+        self.named += 1;
+        let name = names::no_utf8(self.named);
+        fs::write(OsStr::from_bytes(&name), "")?;
+        Ok(File::unread(name))
     }
 
     fn far_too_long(&mut self) -> io::Result<File> {
