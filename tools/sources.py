@@ -244,6 +244,11 @@ def bare(text):
     return RT_TEXT.sub(lambda found: re.sub(r"[^\n]", " ", found.group()), text)
 
 
+def is_derive(row):
+    """Whether a line gives a type its derived impls, of which no statement speaks."""
+    return row.strip().startswith("#[derive(")
+
+
 def closing(text, at):
     """The place of the bracket that closes the one at this place."""
     depth = 0
@@ -302,7 +307,7 @@ class RtFile:
         while first > 1 and rows[first - 2].strip().startswith("#["):
             first -= 1
         last = plain.count("\n", 0, end) + 1
-        lines = {row for row in range(first, last + 1) if rows[row - 1].strip() and not rows[row - 1].strip().startswith("#[derive(")}
+        lines = {row for row in range(first, last + 1) if rows[row - 1].strip() and not is_derive(rows[row - 1])}
         body = plain[item.end() : end + 1]
         self.types[name] = RtItem(kind, name, body, lines)
         if kind == "struct":
