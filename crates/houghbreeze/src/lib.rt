@@ -59,12 +59,7 @@ pub fn hb_site_open(s: &mut [u8; IMAGE], flow: usize, weight: usize) -> HbReply
     hb_open(s, flow, weight)
 }
 
-pub fn hb_site_offer(
-    s: &mut [u8; IMAGE],
-    flow: usize,
-    packet: &[u8],
-    store: &mut [u8],
-) -> HbReply
+pub fn hb_site_offer(s: &mut [u8; IMAGE], flow: usize, packet: &[u8], store: &mut [u8]) -> HbReply
     requires { SoundImage s.old }
     ensures { SiteOfferGives s.old flow packet.now store.old store.new s.new result }
 {
