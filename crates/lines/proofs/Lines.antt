@@ -1,9 +1,9 @@
 -- The theorems on lines: what `line_at` reads is what `written` writes, and nothing else. They stand at the end:
---     reads-what-is-written     where the input goes on with an event's line, that event is read, up to the line's end
---     text-is-line              the same, where the line is said to stand up to a place
---     nothing-else-is-read      where an event is read, its line stands, up to the place that is given
---     moves-on                  the place that is given is further on, and not past the end
---     line-is, no-other-line    what `line_at` gives is what `LineIs` says of lines as they are written, and nothing else is
+--     reads_what_is_written     where the input goes on with an event's line, that event is read, up to the line's end
+--     text_is_line              the same, where the line is said to stand up to a place
+--     nothing_else_is_read      where an event is read, its line stands, up to the place that is given
+--     moves_on                  the place that is given is further on, and not past the end
+--     line_is, no_other_line    what `line_at` gives is what `LineIs` says of lines as they are written, and nothing else is
 use Prim.Native.Nat.{ℕ, ◌+◌, ◌<◌, ◌≤◌}
 use Prim.Native.Char.{code}
 use native.Mathlib.Omega.{arith}

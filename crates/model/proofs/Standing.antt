@@ -1,4 +1,4 @@
--- What the rules tell of the flow whose turn it is, and of the room in the line. The user's old fault, a controller in line twice, is `never-twice`.
+-- What the rules tell of the flow whose turn it is, and of the room in the line. The user's old fault, a controller in line twice, is `never_twice`.
 use Prim.Native.Nat.{ℕ, zero, suc, ◌*◌, ◌≤◌, ◌<◌}
 use mathlib.Core.Path.{◌≡◌, refl, ap, subst}
 use mathlib.Core.List.{List, [], ◌∷◌}

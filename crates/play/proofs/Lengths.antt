@@ -1,12 +1,12 @@
 -- No transcript is longer than three times the longest input and a line. Every line that is printed is paid for by bytes of the input, three for one:
 -- a departure's line by the line on which its packet arrived.
---     transcript-fits        a buffer of four times the longest input holds every transcript
---     nothing-left-off       so what `play` puts into such a buffer is the whole transcript
---     at-most-4096-depart    no input has more departures
---     bad-line-small         a bad line is a line of the input
---     log-fits               a log of an eighth of the longest input holds them all
---     no-departure-left-off  so such a log notes them all
---     count-within           what is printed lies within the buffer, so that a caller may lend it on
+--     transcript_fits        a buffer of four times the longest input holds every transcript
+--     nothing_left_off       so what `play` puts into such a buffer is the whole transcript
+--     at_most_4096_depart    no input has more departures
+--     bad_line_small         a bad line is a line of the input
+--     log_fits               a log of an eighth of the longest input holds them all
+--     no_departure_left_off  so such a log notes them all
+--     count_within           what is printed lies within the buffer, so that a caller may lend it on
 use Prim.Native.Nat.{ℕ, zero, suc, ◌+◌, ◌*◌, ◌-◌, ◌^◌, ◌<◌, ◌≤◌}
 use native.Mathlib.Decide.{dec_lt}
 use native.Mathlib.Omega.{arith}

@@ -1,9 +1,9 @@
 -- The departures among reports, how they end, and what reports leave in the two buffers of a replay.
---     reported-append    reports one behind the other
---     bad-reported, idle-reported, answer-reported   what is printed of what is no departure
---     sent-reported      a departure, printed and noted
+--     reported_append    reports one behind the other
+--     bad_reported, idle_reported, answer_reported   what is printed of what is no departure
+--     sent_reported      a departure, printed and noted
 --     goes_on            no event ends a replay
---     counts-departures  an event counts the departures that it reports
+--     counts_departures  an event counts the departures that it reports
 use Prim.Native.Nat.{ℕ, ◌+◌}
 use native.Mathlib.Omega.{arith}
 use mathlib.Core.Bool.{Bool, true, false, cond}

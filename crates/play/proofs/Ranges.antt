@@ -1,5 +1,5 @@
 -- Every departure of a replay is of a flow below 32 and of at most 256 bytes.
---     departures-in-range   so a log of it can be read
+--     departures_in_range   so a log of it can be read
 use Prim.Native.Nat.{ℕ, zero, suc, ◌+◌}
 use native.Mathlib.Decide.{dec_lt}
 use native.Mathlib.Omega.{arith}

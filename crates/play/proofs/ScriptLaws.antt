@@ -1,5 +1,5 @@
 -- The script of an input, line by line. Its bound on the lines never cuts it short.
---     more-lines-allowed   a larger bound gives the same script
+--     more_lines_allowed   a larger bound gives the same script
 use Prim.Native.Nat.{ℕ, zero, suc, ◌+◌, ◌-◌, ◌<◌, ◌≤◌}
 use native.Mathlib.Decide.{dec_lt}
 use native.Mathlib.Omega.{arith}

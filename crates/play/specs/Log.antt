@@ -40,6 +40,6 @@ unfoldable pub InRange : List Sent → Type 0
 InRange [] = Unit {0}
 InRange (d ∷ more) = (d.flow < flow_limit) × (d.size ≤ size_limit) × InRange more
 
--- A log of so many numbers holds the departures of every input, as `log-fits` shows.
+-- A log of so many numbers holds the departures of every input, as `log_fits` shows.
 abbrev pub log_limit : ℕ
 log_limit = input_limit / 8

@@ -10,7 +10,7 @@ use Rattle.play.specs.Story.{Report, bad, refused, sent, idle, new_replay, story
 abbrev pub input_limit : ℕ
 input_limit = 65_536
 
--- A buffer of so many bytes holds every transcript, as `transcript-fits` shows.
+-- A buffer of so many bytes holds every transcript, as `transcript_fits` shows.
 abbrev pub output_limit : ℕ
 output_limit = 4 * input_limit
 

@@ -1,12 +1,12 @@
 -- Laws of `put`: texts put one behind the other are one text, the buffer keeps its length, and what stands in the buffer in the end.
---     put-append      two texts, one behind the other
---     put-behind      the same, of pages that calls left behind
+--     put_append      two texts, one behind the other
+--     put_behind      the same, of pages that calls left behind
 --     put_keeps       the buffer's length
---     past-within     the place stays within the buffer
+--     past_within     the place stays within the buffer
 --     byte_fits       one byte where there is room
---     byte-left-off   one byte where there is none
+--     byte_left_off   one byte where there is none
 --     printed         a text put from the start of a buffer is printed there
---     printed-whole   where it fits, it is printed whole
+--     printed_whole   where it fits, it is printed whole
 use Prim.Native.Nat.{ℕ, ◌+◌, ◌<◌, ◌≤◌, min}
 use native.Mathlib.Omega.{arith}
 use mathlib.Core.Bool.{Bool, true, false, cond}

@@ -1,5 +1,5 @@
 -- The reading of a log, departure by departure: so many are counted, and the rest is still to be read.
---     reads-begin   nothing is counted yet
+--     reads_begin   nothing is counted yet
 --     next          what holds where a departure is to be read
 --     reads_on      one departure more is counted
 --     reads_end     all are

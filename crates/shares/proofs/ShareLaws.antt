@@ -1,8 +1,8 @@
 -- Shares with one departure more, and how much they can be.
---     share-snoc              a share with one departure more
---     flows-snoc              the flows' shares with one departure more
---     flow-share              the share of one flow among them
---     flow-at-most            a flow's share is no more than that of all
+--     share_snoc              a share with one departure more
+--     flows_snoc              the flows' shares with one departure more
+--     flow_share              the share of one flow among them
+--     flow_at_most            a flow's share is no more than that of all
 --     total_at_most           of so many departures, no more than 256 bytes each
 use Prim.Native.Nat.{ℕ, zero, suc, ◌+◌, ◌*◌, ◌<◌, ◌≤◌, max}
 use native.Mathlib.Nat.{add-zero, add-suc, suc-add}

@@ -1,6 +1,6 @@
 -- The flows' shares add up to the total.
 --     packets_in, bytes_in, largest_in   what a list of shares comes to
---     flows-add-up                    of the flows' shares, that is the total's
+--     flows_add_up                    of the flows' shares, that is the total's
 use Prim.Native.Nat.{ℕ, zero, suc, ◌+◌, ◌<◌, max}
 use native.Mathlib.Nat.{add_assoc, add_left_comm}
 use native.Mathlib.Omega.{arith}

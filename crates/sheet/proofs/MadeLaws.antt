@@ -1,6 +1,6 @@
 -- A sheet, site by site.
---     unread-events, unread-output, read-files   what is made of a site's files
---     making-begin, making-on, making-end        the sheet of the sites so far
+--     unread_events, unread_output, read_files   what is made of a site's files
+--     making_begin, making_on, making_end        the sheet of the sites so far
 use Prim.Native.Nat.{ℕ, ◌+◌, ◌*◌, ◌≤◌}
 use native.Mathlib.Omega.{arith}
 use mathlib.Core.List.{List, [], ◌∷◌, ◌++◌}

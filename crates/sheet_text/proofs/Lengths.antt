@@ -1,6 +1,6 @@
 -- How long the text of a sheet can be, where its numbers are of 64 bits: such a number has 20 digits at most.
---     sums-fit      a buffer of 4,096 bytes holds the sums of any week
---     remark-fits   one of 4,352 bytes holds the remark on any site whose name has at most 4,096 bytes
+--     sums_fit      a buffer of 4,096 bytes holds the sums of any week
+--     remark_fits   one of 4,352 bytes holds the remark on any site whose name has at most 4,096 bytes
 use Prim.Native.Nat.{ℕ, suc, ◌+◌, ◌*◌, ◌^◌, ◌<◌, ◌≤◌}
 use native.Mathlib.Omega.{arith}
 use mathlib.Core.List.{List, [], ◌∷◌, ◌++◌, map}

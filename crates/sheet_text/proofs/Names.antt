@@ -1,5 +1,5 @@
 -- A remark is one line, whatever the name of the site's output holds: no byte of a name is shown as a line feed, and no digit is one.
---     no-name-forges-a-line   what is remarked of a site ends in a line feed and has no other
+--     no_name_forges_a_line   what is remarked of a site ends in a line feed and has no other
 use Prim.Native.Nat.{ℕ, ◌+◌}
 use native.Mathlib.Decide.{dec_lt, ℕ_discrete}
 use native.Mathlib.Omega.{arith}

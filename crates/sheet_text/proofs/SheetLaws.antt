@@ -1,6 +1,6 @@
 -- A sheet with one site more.
---     sites-snoc     its site stands behind the others
---     remarks-snoc   and so does the remark on it
+--     sites_snoc     its site stands behind the others
+--     remarks_snoc   and so does the remark on it
 use Prim.Native.Nat.{ℕ, ◌+◌}
 use native.Mathlib.Omega.{arith}
 use mathlib.Core.List.{List, [], ◌∷◌, ◌++◌, append-nil, append_assoc}

@@ -1,7 +1,7 @@
 -- What request 2026-01 asks of the sheet's text.
---     week-sums-fit          the sums of any 64 sites fit their buffer
---     remarks-fit            and so do the remarks on them, whose names have at most 4,096 bytes
---     written-is-the-sheet   what a program writes that has put both into buffers is the sheet
+--     week_sums_fit          the sums of any 64 sites fit their buffer
+--     remarks_fit            and so do the remarks on them, whose names have at most 4,096 bytes
+--     written_is_the_sheet   what a program writes that has put both into buffers is the sheet
 use Prim.Native.Nat.{ℕ, zero, suc, ◌+◌, ◌*◌, ◌≤◌}
 use native.Mathlib.Omega.{arith}
 use mathlib.Core.List.{List, [], ◌∷◌, ◌++◌}

@@ -63,8 +63,8 @@ remarks_after n (s ∷ more) = remark_text (n + 1) (verdict_of s.site) s.name ++
 unfoldable pub sheet_text : List Named → List ℕ
 sheet_text week = sums_text (week_of (sites_of week)) ++ remarks_after 0 week
 
--- A buffer of so many bytes holds the sums of any week, as `sums-fit` shows; and one of so many the remark on any site whose name has at most 4,096
--- bytes, as `remark-fits` shows.
+-- A buffer of so many bytes holds the sums of any week, as `sums_fit` shows; and one of so many the remark on any site whose name has at most 4,096
+-- bytes, as `remark_fits` shows.
 abbrev pub sums_limit : ℕ
 sums_limit = 4_096
 

@@ -1,7 +1,7 @@
 -- Two texts, compared byte by byte.
---     same-to-itself, same-are-equal      `same` finds out whether two texts are equal
---     differ-begin, differ-on, differ-end, differ-here   the line from which on they differ, in the loop that finds it
---     cut-same, cut-difference            a text that is cut off behind the other's end compares as the whole does
+--     same_to_itself, same_are_equal      `same` finds out whether two texts are equal
+--     differ_begin, differ-on, differ_end, differ_here   the line from which on they differ, in the loop that finds it
+--     cut_same, cut_difference            a text that is cut off behind the other's end compares as the whole does
 use Prim.Native.Nat.{ℕ, zero, suc, ◌+◌, ◌<◌, ◌≤◌}
 use native.Mathlib.Numerals.{add-one}
 use native.Mathlib.Omega.{arith}

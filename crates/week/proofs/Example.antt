@@ -1,6 +1,6 @@
 -- Document 01's worked example as a week of four sites: its output whole, cut off behind the fifth line, with no output at all; and a box that was off.
---     example-sums       what the flows sent, of the one site of the first three that follows
---     example-verdicts   what is said of each
+--     example_sums       what the flows sent, of the one site of the first three that follows
+--     example_verdicts   what is said of each
 use mathlib.Core.List.{List, [], ◌∷◌}
 use mathlib.Core.Path.{◌≡◌, refl}
 use lib.ListN.{get_or, take}

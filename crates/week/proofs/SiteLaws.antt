@@ -1,5 +1,5 @@
 -- What is said of a site, and what it adds.
---     follows-when, follows-only-when   `follows` finds out whether an output is the transcript of its events
+--     follows_when, follows_only_when   `follows` finds out whether an output is the transcript of its events
 --     following, differing              what is said of a site, and what it adds, in each case
 --     as_read                           a site of which so much is read that more makes no difference
 use Prim.Native.Nat.{ℕ, ◌<◌}

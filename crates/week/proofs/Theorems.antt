@@ -1,13 +1,13 @@
 -- What request 2026-01 asks of a week of sites.
---     counted-if-it-follows, follows-if-counted   a site is in the sums if and only if its output is the transcript of its events
---     left-out-adds-nothing                       any other site adds nothing
---     longer-is-left-out                          so does one whose output is longer than any transcript
---     unread-takes, site-takes, run-is-the-week   over any run of the calls the week is that of the sites
---     flow-is-that-of-departures, total-is-that-of-departures   the numbers of a week are those of the departures
---     flows-make-the-total                        and the flows' numbers add up to the total
---     sums-at-most                                the largest that a number of 64 sites can be
---     flow-at-most-total                          a flow's are no larger than the total's
---     line-at-most                                and so is the line that is told of a site
+--     counted_if_it_follows, follows_if_counted   a site is in the sums if and only if its output is the transcript of its events
+--     left_out_adds_nothing                       any other site adds nothing
+--     longer_is_left_out                          so does one whose output is longer than any transcript
+--     unread_takes, site_takes, run_is_the_week   over any run of the calls the week is that of the sites
+--     flow_is_that_of_departures, total_is_that_of_departures   the numbers of a week are those of the departures
+--     flows_make_the_total                        and the flows' numbers add up to the total
+--     sums_at_most                                the largest that a number of 64 sites can be
+--     flow_at_most_total                          a flow's are no larger than the total's
+--     line_at_most                                and so is the line that is told of a site
 use Prim.Native.Nat.{ℕ, suc, ◌+◌, ◌<◌, ◌≤◌}
 use native.Mathlib.Omega.{arith}
 use mathlib.Core.Bool.{Bool, true, false, cond}

@@ -1,8 +1,8 @@
 -- A week with one site more.
---     week-snoc                       what a site adds
---     in-range, few                   the departures of a week are in range and few
---     new-week, unread-week, followed-week, differing-week     what each call gives
---     sound-after                     a week stays sound
+--     week_snoc                       what a site adds
+--     in_range, few                   the departures of a week are in range and few
+--     new_week, unread_week, followed-week, differing_week     what each call gives
+--     sound_after                     a week stays sound
 use Prim.Native.Nat.{ℕ, suc, ◌+◌, ◌*◌, ◌<◌, ◌≤◌}
 use native.Mathlib.Omega.{arith}
 use mathlib.Core.Bool.{Bool, true, false, cond}
