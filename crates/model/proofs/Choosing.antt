@@ -1,10 +1,13 @@
--- Choices by a number or a list: which side is chosen, and what is chosen has what both sides have.
+-- Choices by a number, an answer, a test or a list: which side is chosen, and what is chosen has what both sides have.
 use Prim.Native.Nat.{ℕ, zero, suc}
 use mathlib.Core.Path.{◌≡◌, refl, ap}
 use mathlib.Core.List.{List, [], ◌∷◌}
+use mathlib.Core.Bool.{Bool, true, false, cond}
 use native.Mathlib.Omega.{arith}
 use lib.ListN.{length}
-use Rattle.model.specs.Choose.{if_empty, if_zero}
+use Rattle.std.specs.Prelude.{Ok, Err}
+use Rattle.model.specs.Choose.{if_empty, if_zero, if_ok}
+use Rattle.model.specs.Replies.{Answer}
 
 module _ {A : Type 0} where
   pub zero_chosen : (n : ℕ) (a b : A) → n ≡ 0 → if_zero n a b ≡ a
@@ -14,13 +17,24 @@ module _ {A : Type 0} where
   positive_chosen zero a b d = absurd (d refl)
   positive_chosen (suc n) a b d = refl
 
-  pub chosen_twice : (n : ℕ) (a b : A) → if_zero n (if_zero n a b) b ≡ if_zero n a b
-  chosen_twice zero a b = refl
-  chosen_twice (suc n) a b = refl
+  pub ok_chosen : (r : Answer) (a b : A) → r ≡ Ok tt → if_ok r a b ≡ a
+  ok_chosen r a b e = ap (λ (q : Answer). if_ok q a b) e
+
+  pub chosen_twice : (r : Answer) (a b : A) → if_ok r (if_ok r a b) b ≡ if_ok r a b
+  chosen_twice (Ok done) a b = refl
+  chosen_twice (Err e) a b = refl
 
   pub chosen_has : (P : A → Type 0) (n : ℕ) (a b : A) → (n ≡ 0 → P a) → P b → P (if_zero n a b)
   chosen_has P zero a b h k = h refl
   chosen_has P (suc n) a b h k = k
+
+  pub ok_has : (P : A → Type 0) (r : Answer) (a b : A) → (r ≡ Ok tt → P a) → P b → P (if_ok r a b)
+  ok_has P (Ok tt) a b h k = h refl
+  ok_has P (Err e) a b h k = k
+
+  pub tested_has : (P : A → Type 0) (b : Bool) (x y : A) → P x → (b ≡ false → P y) → P (cond b x y)
+  tested_has P true x y h k = h
+  tested_has P false x y h k = k refl
 
   -- Whether a list is empty shows in its length.
   pub empty_by_count : (q : List ℕ) (a b : A) → length q ≡ 0 → if_empty q a b ≡ a

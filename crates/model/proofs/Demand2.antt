@@ -5,16 +5,17 @@ use mathlib.Core.List.{List, [], ◌∷◌, ◌++◌, append-nil, append_assoc, 
 use mathlib.Core.Logic.{◌↔◌}
 use native.Mathlib.Omega.{arith}
 use lib.ListN.{length}
+use lib.Dec.{ltb}
 use Rattle.model.specs.Model.{Flow, Scheduler, flow_at}
 use Rattle.model.specs.Steps.{whose}
-use Rattle.model.specs.Calls.{Burst, offered, departed, departures, burst, burst_made, burst_refusal}
+use Rattle.model.specs.Calls.{Burst, offered, departed, departures, burst, burst_made}
 use Rattle.model.specs.Rules.{Rules}
 use Rattle.model.specs.Replies.{sent_by, taken_by, made_by}
 use Rattle.model.specs.Chain.{moved, next, chain}
 use Rattle.model.specs.OrderCalls.{Call, resetting, opening, offering, departing, bursting, does, order_calls, Packet, sizes_of, packets_of}
 use Rattle.model.specs.declared.Reply.TheVariants.{Departure, Idle}
 use Rattle.model.specs.declared.Sent.{Sent}
-use Rattle.model.proofs.Choosing.{chosen_has}
+use Rattle.model.proofs.Choosing.{tested_has}
 use Rattle.model.proofs.Keeps.{new_closed, new_keeps}
 use Rattle.model.proofs.Departing.{departed_leaves, SendsOrStays, sends, stays, sends_or_stays}
 use Rattle.model.proofs.Chains.{OrderHistory, start, chain_keeps, chain_holds}
@@ -53,12 +54,12 @@ next_balanced h departing R f B =
     balance_moves f h.accepted [] h.left (sent_by (departed h.state).reply) (flow_at h.state f).queue _ B
     (append-nil (flow_at h.state f).queue ∙ departed_queue h.state R f)
 next_balanced h (bursting n list) R f B =
-    chosen_has
+    tested_has
     (λ (b : Burst).
     sizes_of f (h.accepted ++ []) ≡ sizes_of f (packets_of (h.left ++ made_by b.reply (departures n s).sent)) ++ (flow_at b.state f).queue)
-    (burst_refusal n list) (burst_made list (departures n s)) _
-    (λ e. balance_moves f h.accepted [] h.left (departures n s).sent (flow_at s f).queue _ B (append-nil (flow_at s f).queue ∙ departures_queue n s R f))
+    (ltb (length list) n) _ (burst_made list (departures n s))
     (balance_moves f h.accepted [] h.left [] (flow_at s f).queue _ B (append-nil (flow_at s f).queue))
+    (λ e. balance_moves f h.accepted [] h.left (departures n s).sent (flow_at s f).queue _ B (append-nil (flow_at s f).queue ∙ departures_queue n s R f))
   where
     s : Scheduler
     s = h.state

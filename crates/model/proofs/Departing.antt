@@ -11,6 +11,7 @@ use Rattle.model.specs.Steps.{first_size, first_left, next_slot, excess_kept, tu
 use Rattle.model.specs.Calls.{put, next_visit, departed, departures}
 use Rattle.model.specs.Rules.{Rules}
 use Rattle.model.specs.declared.Sent.{Sent}
+use Rattle.model.specs.declared.Refusal.{Refusal}
 use Rattle.model.specs.declared.Reply.{Reply}
 use Rattle.model.specs.declared.Reply.TheVariants.{Departure, Idle, Refused}
 use Rattle.model.specs.declared.Serving.{Serving}
@@ -151,7 +152,7 @@ idle_stays s e = by (sends_or_stays s)
     by (stays i same t l) = same
 
 -- The order layer's departure is never refused.
-pub never_refused : (s : Scheduler) (k : ℕ) → (departed s).reply ≡ Refused k → ⊥
+pub never_refused : (s : Scheduler) (k : Refusal) → (departed s).reply ≡ Refused k → ⊥
 never_refused s k e = by (sends_or_stays s)
   where
     by : SendsOrStays s → ⊥

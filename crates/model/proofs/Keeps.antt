@@ -11,7 +11,7 @@ use borrow.Author.Tests.{leb-true, leb-false}
 use Rattle.model.specs.Limits.{flow_limit, mark_limit}
 use Rattle.model.specs.Model.{Flow, Round, Scheduler, flow_at, closed_flow, new_scheduler}
 use Rattle.model.specs.Steps.{packet_joined, flow_lined, round_started, turn_opened, surplus_cleared, first_left, turn_kept, turn_closed, excess_kept, settled, served, visit_by, visit, allowance}
-use Rattle.model.specs.Calls.{Burst, put, open_flow, opened, offered, departed, departures, and_then, burst, burst_made, unless_refused, open_refusal, offer_refusal, burst_refusal}
+use Rattle.model.specs.Calls.{Burst, put, open_flow, opened, offered, departed, departures, and_then, burst, burst_made, unless_refused, open_answer, offer_answer}
 use Rattle.model.specs.Rules.{count, activity, FlowRules, LineRules, TurnRules, RoundRules, Rules}
 use Rattle.model.specs.declared.Reply.{Reply}
 use Rattle.model.specs.declared.Reply.TheVariants.{Departure, Idle, Refused}
@@ -19,7 +19,8 @@ use Rattle.model.specs.declared.Serving.{Serving}
 use Rattle.model.specs.declared.Serving.TheVariants.{NoTurn, Turn}
 use Rattle.model.specs.Choose.{if_empty}
 use Rattle.model.specs.OrderCalls.{Call, resetting, opening, offering, departing, bursting, does}
-use Rattle.model.proofs.Choosing.{chosen_has}
+use Rattle.model.proofs.Choosing.{ok_has, tested_has}
+use lib.Dec.{ltb}
 use Rattle.model.proofs.Parts.{flow_made_of, round_made_of}
 use Rattle.model.proofs.Refusals.{MayOpen, may_open, MayOffer, may_offer}
 use Rattle.model.proofs.Counts.{count_head}
@@ -170,7 +171,7 @@ module _ {flow flow' : ℕ → Flow} {f : ℕ} (only : OnlyAt f flow flow') (r :
 pub opened_keeps : (s : Scheduler) (f weight : ℕ) → Rules s → Rules (opened s f weight).state
 unfolding opened unless_refused
 opened_keeps s f weight R =
-    chosen_has Rules (open_refusal f weight (flow_at s f)) (put s f (open_flow weight) s.round) s (λ e. effect (may_open f weight (flow_at s f) e)) R
+    ok_has Rules (open_answer f weight (flow_at s f)) (put s f (open_flow weight) s.round) s (λ e. effect (may_open f weight (flow_at s f) e)) R
   where
     effect : MayOpen f weight (flow_at s f) → Rules (put s f (open_flow weight) s.round)
     effect may =
@@ -183,7 +184,7 @@ opened_keeps s f weight R =
 pub offered_keeps : (s : Scheduler) (f size : ℕ) → Rules s → Rules (offered s f size).state
 unfolding offered unless_refused flow_lined
 offered_keeps s f size R =
-    chosen_has Rules (offer_refusal f size (flow_at s f)) (put s f (packet_joined (flow_at s f) size) (flow_lined s.round f (flow_at s f))) s
+    ok_has Rules (offer_answer f size (flow_at s f)) (put s f (packet_joined (flow_at s f) size) (flow_lined s.round f (flow_at s f))) s
     (λ e. effect (may_offer f size (flow_at s f) e)) R
   where
     x : Flow
@@ -318,7 +319,7 @@ module _ (P : Scheduler → Type 0) (keeps : (s : Scheduler) → P s → P (depa
   pub burst_holds : (s : Scheduler) (n : ℕ) (list : List ℕ) → P s → P (burst s n list).state
   unfolding burst burst_made
   burst_holds s n list p =
-      chosen_has (λ (b : Burst). P b.state) (burst_refusal n list) (burst_made list (departures n s)) _ (λ e. departures_hold n s p) p
+      tested_has (λ (b : Burst). P b.state) (ltb (length list) n) _ (burst_made list (departures n s)) p (λ e. departures_hold n s p)
 
 pub departures_keep : (n : ℕ) (s : Scheduler) → Rules s → Rules (departures n s).state
 departures_keep = departures_hold Rules departed_keeps

@@ -5,10 +5,10 @@ use mathlib.Core.List.{List, [], ◌∷◌, ◌++◌, append-nil, append_assoc}
 use mathlib.Core.Bool.{Bool, cond}
 use lib.Dec.{eqb}
 use borrow.Author.Tests.{eq-eqb, ne_eqb}
-use Rattle.model.specs.Choose.{if_zero}
+use Rattle.model.specs.Choose.{if_ok}
 use Rattle.model.specs.Model.{Flow, Round, Scheduler, flow_at}
 use Rattle.model.specs.Steps.{packet_joined, flow_lined}
-use Rattle.model.specs.Calls.{put, open_flow, opened, offered, departed, departures, and_then, unless_refused, answer_of, open_refusal, offer_refusal}
+use Rattle.model.specs.Calls.{put, open_flow, opened, offered, departed, departures, and_then, unless_refused, open_answer, offer_answer}
 use Rattle.model.specs.Rules.{Rules}
 use Rattle.model.specs.Replies.{sent_by, taken_by}
 use Rattle.model.specs.OrderCalls.{Packet, sizes_of, packets_of}
@@ -19,7 +19,9 @@ use Rattle.model.proofs.Flows.{at_others, here_now}
 use Rattle.model.proofs.Keeps.{departed_keeps}
 use Rattle.model.proofs.Departing.{Leaves, departed_leaves, SendsOrStays, sends, stays, sends_or_stays}
 use Rattle.model.proofs.Line.{same_or_other}
-use Rattle.model.proofs.Choosing.{chosen_has}
+use Rattle.model.proofs.Choosing.{ok_has}
+use Rattle.std.specs.Prelude.{Ok, Err}
+use Rattle.model.specs.Replies.{Answer}
 
 pub sizes_append : (f : ℕ) (a b : List Packet) → sizes_of f (a ++ b) ≡ sizes_of f a ++ sizes_of f b
 unfolding sizes_of
@@ -76,7 +78,7 @@ departures_queue (suc n) s R g = by (departed s).reply refl (departures_queue n 
 pub opened_queue : (s : Scheduler) (f weight : ℕ) → Rules s → (g : ℕ) → (flow_at (opened s f weight).state g).queue ≡ (flow_at s g).queue
 unfolding opened unless_refused
 opened_queue s f weight R g =
-    chosen_has (λ t. (flow_at t g).queue ≡ (flow_at s g).queue) (open_refusal f weight (flow_at s f)) (put s f (open_flow weight) s.round) s
+    ok_has (λ t. (flow_at t g).queue ≡ (flow_at s g).queue) (open_answer f weight (flow_at s f)) (put s f (open_flow weight) s.round) s
     (λ e. effect (may_open f weight (flow_at s f) e)) refl
   where
     effect : MayOpen f weight (flow_at s f) → (flow_at (put s f (open_flow weight) s.round) g).queue ≡ (flow_at s g).queue
@@ -90,7 +92,7 @@ opened_queue s f weight R g =
 pub offered_queue : (s : Scheduler) (f size : ℕ) → Rules s → (g : ℕ)
     → (flow_at (offered s f size).state g).queue ≡ (flow_at s g).queue ++ sizes_of g (taken_by (offered s f size).reply (record { flow = f; size = size }))
 unfolding offered unless_refused packet_joined sizes_of
-offered_queue s f size R g = by (offer_refusal f size (flow_at s f)) refl
+offered_queue s f size R g = by (offer_answer f size (flow_at s f)) refl
   where
     x : Flow
     x = packet_joined (flow_at s f) size
@@ -101,9 +103,9 @@ offered_queue s f size R g = by (offer_refusal f size (flow_at s f)) refl
     nothing : sizes_of g [] ≡ []
     nothing = refl
 
-    by : (n : ℕ) → offer_refusal f size (flow_at s f) ≡ n
-        → (flow_at (if_zero n (put s f x r) s) g).queue ≡ (flow_at s g).queue ++ sizes_of g (taken_by (answer_of n) (record { flow = f; size = size }))
-    by zero e =
+    by : (a : Answer) → offer_answer f size (flow_at s f) ≡ a
+        → (flow_at (if_ok a (put s f x r) s) g).queue ≡ (flow_at s g).queue ++ sizes_of g (taken_by a (record { flow = f; size = size }))
+    by (Ok tt) e =
         same_or_other (λ h. (flow_at (put s f x r) h).queue ≡ (flow_at s h).queue ++ sizes_of h (record { flow = f; size = size } ∷ [])) f g
         (ap (λ (y : Flow). y.queue) (here_now s R (may_offer f size (flow_at s f) e).flow_in_range x r)
         ∙ ap (λ (l : List ℕ). (flow_at s f).queue ++ l) (sym (its_own f size)))
@@ -111,4 +113,4 @@ offered_queue s f size R g = by (offer_refusal f size (flow_at s f)) refl
         ap (λ (y : Flow). y.queue) (at_others s f x r g d)
         ∙ sym (append-nil (flow_at s g).queue)
         ∙ ap (λ (l : List ℕ). (flow_at s g).queue ++ l) (sym (anothers g f size d)))
-    by (suc n) e = sym (ap (λ (l : List ℕ). (flow_at s g).queue ++ l) nothing ∙ append-nil (flow_at s g).queue)
+    by (Err n) e = sym (ap (λ (l : List ℕ). (flow_at s g).queue ++ l) nothing ∙ append-nil (flow_at s g).queue)

@@ -7,12 +7,12 @@ use lib.ListN.{length, length-append}
 use Rattle.model.specs.Limits.{queue_limit}
 use Rattle.model.specs.Model.{Flow, Scheduler, flow_at, new_scheduler}
 use Rattle.model.specs.Steps.{next_slot_of, packet_joined}
-use Rattle.model.specs.Calls.{put, open_flow, opened, offered, departed, burst, unless_refused, open_refusal, offer_refusal}
+use Rattle.model.specs.Calls.{put, open_flow, opened, offered, departed, burst, unless_refused, open_answer, offer_answer}
 use Rattle.model.specs.Rules.{Rules}
 use Rattle.model.specs.Replies.{taken_by}
 use Rattle.model.specs.Chain.{moved, next, chain}
 use Rattle.model.specs.OrderCalls.{Call, resetting, opening, offering, departing, bursting, does, order_calls, Packet, sizes_of}
-use Rattle.model.proofs.Choosing.{chosen_has}
+use Rattle.model.proofs.Choosing.{ok_has}
 use Rattle.model.proofs.Refusals.{MayOpen, may_open}
 use Rattle.model.proofs.Line.{same_or_other}
 use Rattle.model.proofs.Flows.{at_others, here_now, put_relates}
@@ -32,7 +32,7 @@ new_in_turn f = rw (new_closed f) (record { next_slot_is = refl; none_if_closed 
 opened_in_turn : (s : Scheduler) (g weight : ℕ) → Rules s → (f n : ℕ) → InTurn (flow_at s f) n → InTurn (flow_at (opened s g weight).state f) n
 unfolding opened unless_refused
 opened_in_turn s g weight R f n T =
-    chosen_has (λ t. InTurn (flow_at t f) n) (open_refusal g weight (flow_at s g)) (put s g (open_flow weight) s.round) s
+    ok_has (λ t. InTurn (flow_at t f) n) (open_answer g weight (flow_at s g)) (put s g (open_flow weight) s.round) s
     (λ e. effect (may_open g weight (flow_at s g) e) T) T
   where
     effect : MayOpen g weight (flow_at s g) → InTurn (flow_at s f) n → InTurn (flow_at (put s g (open_flow weight) s.round) f) n
@@ -49,7 +49,7 @@ offered_weight_and_slot : (s : Scheduler) (g size f : ℕ)
     → ((flow_at (offered s g size).state f).weight ≡ (flow_at s f).weight) × ((flow_at (offered s g size).state f).slot ≡ (flow_at s f).slot)
 unfolding offered unless_refused put packet_joined
 offered_weight_and_slot s g size f =
-    chosen_has (λ t. ((flow_at t f).weight ≡ (flow_at s f).weight) × ((flow_at t f).slot ≡ (flow_at s f).slot)) (offer_refusal g size (flow_at s g)) _ s
+    ok_has (λ t. ((flow_at t f).weight ≡ (flow_at s f).weight) × ((flow_at t f).slot ≡ (flow_at s f).slot)) (offer_answer g size (flow_at s g)) _ s
     (λ e. put_relates (λ x y. (y.weight ≡ x.weight) × (y.slot ≡ x.slot)) (λ x. (refl, refl)) s.flows g (packet_joined (flow_at s g) size) (refl, refl) f)
     (refl, refl)
 

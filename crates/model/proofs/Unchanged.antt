@@ -4,26 +4,25 @@ use mathlib.Core.Path.{◌≡◌, refl, sym, ap}
 use mathlib.Core.List.{List, []}
 use native.Mathlib.Omega.{arith}
 use lib.ListN.{length}
-use Rattle.model.specs.Choose.{if_zero}
+use lib.Dec.{ltb}
+use Rattle.std.specs.Prelude.{Ok, Err}
 use Rattle.model.specs.Model.{Scheduler, flow_at}
-use Rattle.model.specs.Calls.{Burst, Departures, opened, offered, departed, departures, and_then, burst, burst_made, burst_refusal, unless_refused, open_refusal, offer_refusal, answer_of}
-use Rattle.model.specs.Replies.{of_answer, of_reply, of_count, sent_by, made_by}
+use Rattle.model.specs.Calls.{Burst, Departures, opened, offered, departed, departures, and_then, burst, burst_made, unless_refused, open_answer, offer_answer}
+use Rattle.model.specs.Replies.{Answer, of_answer, of_reply, of_count, sent_by, made_by}
 use Rattle.model.specs.OrderCalls.{Call, resetting, opening, offering, departing, bursting, does}
-use Rattle.model.specs.declared.Answer.TheVariants.{Refused as AnswerRefused}
-use Rattle.model.specs.declared.Count.TheVariants.{Refused as CountRefused}
 use Rattle.model.specs.declared.Reply.{Reply}
 use Rattle.model.specs.declared.Reply.TheVariants.{Departure, Idle, Refused}
 use Rattle.model.specs.declared.Sent.{Sent}
-use Rattle.model.proofs.Choosing.{chosen_has}
+use Rattle.model.proofs.Choosing.{tested_has}
 use Rattle.model.proofs.Departing.{idle_stays, never_refused}
 
 abbrev pub Unchanged : Scheduler → Call → Type 0
 Unchanged s c = ((does s c).state ≡ s) × ((does s c).seen.back ≡ (does s c).seen.lent)
 
-pub unless_refused_keeps : (n : ℕ) (s t : Scheduler) → 1 ≤ (of_answer (unless_refused n s t).reply).refusal → (unless_refused n s t).state ≡ s
+pub unless_refused_keeps : (a : Answer) (s t : Scheduler) → 1 ≤ (of_answer (unless_refused a s t).reply).refusal → (unless_refused a s t).state ≡ s
 unfolding unless_refused
-unless_refused_keeps zero s t refused = absurd (omega arith)
-unless_refused_keeps (suc n) s t refused = refl
+unless_refused_keeps (Ok done) s t refused = absurd (omega arith)
+unless_refused_keeps (Err r) s t refused = refl
 
 no_refusal : (s : Scheduler) (reply : Reply) → (departed s).reply ≡ reply → 1 ≤ (of_reply reply).refusal → ⊥
 no_refusal s (Departure d) e refused = absurd (omega arith)
@@ -33,16 +32,16 @@ no_refusal s (Refused k) e refused = never_refused s k e
 burst_refused : (s : Scheduler) (n : ℕ) (list : List ℕ) → 1 ≤ (of_count (burst s n list).reply).refusal → ((burst s n list).state ≡ s) × ((burst s n list).list ≡ list)
 unfolding burst burst_made
 burst_refused s n list =
-    chosen_has (λ (b : Burst). 1 ≤ (of_count b.reply).refusal → (b.state ≡ s) × (b.list ≡ list)) (burst_refusal n list) (burst_made list (departures n s)) _
-    (λ e refused. absurd (omega arith))
+    tested_has (λ (b : Burst). 1 ≤ (of_count b.reply).refusal → (b.state ≡ s) × (b.list ≡ list)) (ltb (length list) n) _ (burst_made list (departures n s))
     (λ refused. (refl, refl))
+    (λ e refused. absurd (omega arith))
 
 -- A refusal changes nothing.
 pub refused_unchanged : (s : Scheduler) (c : Call) → 1 ≤ (does s c).seen.says.refusal → Unchanged s c
 unfolding does opened offered
 refused_unchanged s resetting refused = absurd (omega arith)
-refused_unchanged s (opening f weight) refused = (unless_refused_keeps (open_refusal f weight (flow_at s f)) s _ refused, refl)
-refused_unchanged s (offering f size) refused = (unless_refused_keeps (offer_refusal f size (flow_at s f)) s _ refused, refl)
+refused_unchanged s (opening f weight) refused = (unless_refused_keeps (open_answer f weight (flow_at s f)) s _ refused, refl)
+refused_unchanged s (offering f size) refused = (unless_refused_keeps (offer_answer f size (flow_at s f)) s _ refused, refl)
 refused_unchanged s departing refused = absurd (no_refusal s (departed s).reply refl refused)
 refused_unchanged s (bursting n list) refused = burst_refused s n list refused
 
@@ -71,9 +70,9 @@ unsent_burst_stays : (s : Scheduler) (n : ℕ) (list : List ℕ) → made_by (bu
     → ((burst s n list).state ≡ s) × ((burst s n list).list ≡ list)
 unfolding burst burst_made
 unsent_burst_stays s n list =
-    chosen_has (λ (b : Burst). made_by b.reply (departures n s).sent ≡ [] → (b.state ≡ s) × (b.list ≡ list)) (burst_refusal n list) (burst_made list (departures n s)) _
-    (λ e none. (none_made_stays n s none, none_written list (departures n s) none))
+    tested_has (λ (b : Burst). made_by b.reply (departures n s).sent ≡ [] → (b.state ≡ s) × (b.list ≡ list)) (ltb (length list) n) _ (burst_made list (departures n s))
     (λ none. (refl, refl))
+    (λ e none. (none_made_stays n s none, none_written list (departures n s) none))
 
 -- A departure call with which nothing leaves changes nothing, nor does such a burst: at idle, and where none is asked for.
 pub unsent_departure_unchanged : (s : Scheduler) → (does s departing).seen.sends ≡ [] → Unchanged s departing
@@ -83,25 +82,3 @@ unsent_departure_unchanged s none = (unsent_stays s (departed s).reply refl none
 pub unsent_burst_unchanged : (s : Scheduler) (n : ℕ) (list : List ℕ) → (does s (bursting n list)).seen.sends ≡ [] → Unchanged s (bursting n list)
 unfolding does
 unsent_burst_unchanged s n list none = unsent_burst_stays s n list none
-
--- ---- a refusal's number is not 0
-
-pub answer_not_zero : (n : ℕ) → answer_of n ≡ AnswerRefused 0 → ⊥
-answer_not_zero zero e = let z : ◌≡◌ {A = ℕ} 0 1 = cc in absurd (omega arith)
-answer_not_zero (suc n) e = let z : ◌≡◌ {A = ℕ} (of_answer (AnswerRefused (suc n))).refusal 0 = ap {B = ℕ} (λ a. (of_answer a).refusal) e in absurd (omega arith)
-
-pub open_not_zero : (s : Scheduler) (f weight : ℕ) → (opened s f weight).reply ≡ AnswerRefused 0 → ⊥
-unfolding opened unless_refused
-open_not_zero s f weight = answer_not_zero (open_refusal f weight (flow_at s f))
-
-pub offer_not_zero : (s : Scheduler) (f size : ℕ) → (offered s f size).reply ≡ AnswerRefused 0 → ⊥
-unfolding offered unless_refused
-offer_not_zero s f size = answer_not_zero (offer_refusal f size (flow_at s f))
-
-pub count_not_zero : (s : Scheduler) (n : ℕ) (list : List ℕ) → (burst s n list).reply ≡ CountRefused 0 → ⊥
-unfolding burst burst_made
-count_not_zero s n list = by (burst_refusal n list)
-  where
-    by : (m : ℕ) → (if_zero m (burst_made list (departures n s)) (record { state = s; list = list; reply = CountRefused m })).reply ≡ CountRefused 0 → ⊥
-    by zero e = let z : ◌≡◌ {A = ℕ} 0 1 = cc in absurd (omega arith)
-    by (suc m) e = let z : ◌≡◌ {A = ℕ} (suc m) 0 = ap {B = ℕ} (λ c. (of_count c).refusal) e in absurd (omega arith)

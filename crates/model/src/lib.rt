@@ -2,6 +2,9 @@
 // The model of Elastic Round Robin that all contracts cite is in specs/.
 #![tactic(auto)]
 
+ghost use Rattle.std.specs.Prelude.{◌≡◌};
+ghost use Rattle.model.specs.Replies.{number_of};
+
 // Flow numbers are 0 to 31.
 pub const FLOW_LIMIT: usize = 32;
 // Weights are 1 to 16.
@@ -11,20 +14,27 @@ pub const SIZE_LIMIT: usize = 256;
 // At most 8 packets of a flow wait.
 pub const QUEUE_LIMIT: u8 = 8;
 
-// Document 01's refusals, by number.
-pub const NO_SUCH_FLOW: u8 = 1;
+// Document 01's refusals, each with its number.
+#[derive(Clone, Copy, Debug, PartialEq, Eq)]
+pub enum Refusal {
+    NoSuchFlow = 1,
+    BadWeight = 2,
+    OpenAlready = 3,
+    NotOpen = 4,
+    BadSize = 5,
+    QueueFull = 6,
+    OutShort = 7,
+    StoreWrong = 8,
+    ListShort = 9,
+}
 
-pub const BAD_WEIGHT: u8 = 2;
+impl From<Refusal> for u8 {
+    ghost from_gives = { λ refusal number. number ≡ number_of refusal };
 
-pub const OPEN_ALREADY: u8 = 3;
-
-pub const NOT_OPEN: u8 = 4;
-
-pub const BAD_SIZE: u8 = 5;
-
-pub const QUEUE_FULL: u8 = 6;
-
-pub const LIST_SHORT: u8 = 9;
+    fn from(refusal: Refusal) -> u8 {
+        refusal as u8
+    }
+}
 
 // Either no turn is open, or one is, with its flow, allowance and bytes sent so far.
 #[derive(Clone, Copy)]
@@ -47,19 +57,12 @@ pub struct Sent {
 pub enum Reply {
     Departure(Sent),
     Idle,
-    Refused(u8),
+    Refused(Refusal),
 }
 
-// What open and offer reply with.
+// What a call hands back: the state, and its reply beside it.
 #[derive(Clone, Copy)]
-pub enum Answer {
-    Done,
-    Refused(u8),
-}
-
-// What burst replies with: how many departures it made.
-#[derive(Clone, Copy)]
-pub enum Count {
-    Made(usize),
-    Refused(u8),
+pub struct Outcome<S, R> {
+    pub state: S,
+    pub reply: R,
 }
