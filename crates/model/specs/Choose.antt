@@ -16,3 +16,8 @@ module _ {A : Type 0} where
   abbrev pub if_ok : {T E : Type 0} → Result T E → A → A → A
   if_ok (Ok x) a b = a
   if_ok (Err e) a b = b
+
+  -- a where the answer is good; else the answer's error
+  abbrev pub ok_with : {T E : Type 0} → Result T E → A → Result A E
+  ok_with (Ok x) a = Ok a
+  ok_with (Err e) a = Err e

@@ -40,7 +40,7 @@ of_reply (Departure d) = told (d.flow ∷ d.size ∷ d.mark ∷ d.allowance ∷ 
 of_reply Idle = told []
 of_reply (Refused r) = refused (number_of r)
 
-abbrev pub of_answer : Answer → Said
+abbrev pub of_answer : {T : Type 0} → Result T Refusal → Said
 of_answer (Ok done) = told []
 of_answer (Err r) = refused (number_of r)
 
@@ -55,7 +55,7 @@ sent_by Idle = []
 sent_by (Refused r) = []
 
 -- What is offered, where the answer accepts it.
-abbrev pub taken_by : {A : Type 0} → Answer → A → List A
+abbrev pub taken_by : {T A : Type 0} → Result T Refusal → A → List A
 taken_by (Ok done) packet = packet ∷ []
 taken_by (Err r) packet = []
 

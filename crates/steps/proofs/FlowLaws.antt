@@ -38,11 +38,11 @@ module _ (x : FlowCell) (size : ℕ) (h : HasRoom x size) (worth : ℕ) (p : wor
       omega (arith, added_sizes, packed_fits (sizes_joined h.ready.rules.sizes_in_range h.size_positive h.size_small) (omega (arith, one_more, h.room)))
 
   pub joined_first : x.waiting ≡ 0
-      → record { weight = x.weight; surplus = 0; slot = x.slot; waiting = 1; sizes = x.sizes + worth * (size - 1) }
+      → record { weight = x.weight; surplus = 0; slot = x.slot; waiting = x.waiting + 1; sizes = x.sizes + worth * (size - 1) }
       ≡ encode_flow (packet_joined (view_flow x) size)
   unfolding encode_flow packet_joined view_flow
   joined_first e =
-      same_cell refl (sym (empty_by_count (view_flow x).queue 0 x.surplus (omega (arith, waiting_is x h.ready.form)))) refl (omega (arith, one_more)) added_sizes
+      same_cell refl (sym (empty_by_count (view_flow x).queue 0 x.surplus (omega (arith, waiting_is x h.ready.form)))) refl one_more added_sizes
 
   pub joined_behind : (x.waiting ≡ 0 → ⊥)
       → record { weight = x.weight; surplus = x.surplus; slot = x.slot; waiting = x.waiting + 1; sizes = x.sizes + worth * (size - 1) }

@@ -1,18 +1,17 @@
 -- What the private functions may count on, which every public call shows from `Sound`; and how what they make of the parts of a state is told.
-use Rattle.std.specs.Prelude.{ℕ, ◌+◌, ◌≤◌, ◌<◌, ◌≡◌, List, length, take}
+use Rattle.std.specs.Prelude.{ℕ, ◌+◌, ◌≤◌, ◌<◌, ◌≡◌, List, length, take, Result}
 use Rattle.model.specs.Limits.{size_limit, queue_limit, flow_limit, mark_limit, allowance_limit}
 use Rattle.model.specs.Model.{Round}
 use Rattle.model.specs.Rules.{FlowRules}
-use Rattle.model.specs.Choose.{if_zero}
-use Rattle.model.specs.Calls.{open_refusal, offer_refusal, open_flow, answer_of}
+use Rattle.model.specs.Choose.{if_ok}
+use Rattle.model.specs.Calls.{open_answer, offer_answer, open_flow}
+use Rattle.model.specs.Replies.{Answer}
 use Rattle.model.specs.Steps.{packet_joined, flow_lined}
-use Rattle.model.specs.declared.Answer.{Answer}
+use Rattle.model.specs.declared.Refusal.{Refusal}
 use Rattle.model.specs.declared.Serving.{Serving}
 use Rattle.steps.specs.Cells.{cells, line_room, encode_flow, view_flow}
 use Rattle.steps.specs.Places.{offered_place}
 use Rattle.steps.specs.declared.FlowCell.{FlowCell}
-use Rattle.steps.specs.declared.Offered.{Offered}
-use Rattle.steps.specs.declared.Opened.{Opened}
 use Rattle.steps.specs.declared.Place.{Place}
 use Rattle.steps.specs.declared.RoundCell.{RoundCell}
 
@@ -78,32 +77,34 @@ pub record RoundReady (r : RoundInPlace) : Type 0 where
 abbrev pub StepGives : RoundCell → (Round → Round) → RoundCell → Type 0
 StepGives r step c = (line : List ℕ) → RoundReady (in_place line r) → in_place line c ≡ encode_round (step (view_round (in_place line r)))
 
--- What open makes of the flow that it concerns.
-unfoldable pub opened_parts : FlowCell → ℕ → ℕ → Opened
+-- What open makes of the flow that it concerns, with its answer.
+pub record OpenInPlace : Type 0 where
+  pub flow : FlowCell
+  pub answer : Answer
+
+abbrev pub open_in_place : FlowCell → Answer → OpenInPlace
+open_in_place x answer = record { flow = x; answer = answer }
+
+unfoldable pub opened_parts : FlowCell → ℕ → ℕ → OpenInPlace
 opened_parts x f weight =
     record {
-      flow = encode_flow (if_zero (open_refusal f weight (view_flow x)) (open_flow weight) (view_flow x));
-      answer = answer_of (open_refusal f weight (view_flow x));
+      flow = encode_flow (if_ok (open_answer f weight (view_flow x)) (open_flow weight) (view_flow x));
+      answer = open_answer f weight (view_flow x);
     }
 
--- What offer makes of the round and of the flow that it concerns; of the round's numbers only the line's length may change.
+-- What offer makes of the round and of the flow that it concerns, with its reply.
 pub record OfferInPlace : Type 0 where
   pub round : RoundInPlace
   pub flow : FlowCell
-  pub answer : Answer
-  pub into : Place
+  pub reply : Result Place Refusal
 
-abbrev pub with_length : RoundCell → ℕ → RoundCell
-with_length r n = record { length = n; visits = r.visits; mark = r.mark; running = r.running; turn = r.turn }
-
-abbrev pub offer_in_place : List ℕ → RoundCell → Offered → OfferInPlace
-offer_in_place line r o = record { round = in_place line (with_length r o.length); flow = o.flow; answer = o.answer; into = o.into }
+abbrev pub offer_in_place : List ℕ → RoundCell → FlowCell → Result Place Refusal → OfferInPlace
+offer_in_place line r x reply = record { round = in_place line r; flow = x; reply = reply }
 
 unfoldable pub offered_parts : RoundInPlace → FlowCell → ℕ → ℕ → OfferInPlace
 offered_parts r x f size =
     record {
-      round = encode_round (if_zero (offer_refusal f size (view_flow x)) (flow_lined (view_round r) f (view_flow x)) (view_round r));
-      flow = encode_flow (if_zero (offer_refusal f size (view_flow x)) (packet_joined (view_flow x) size) (view_flow x));
-      answer = answer_of (offer_refusal f size (view_flow x));
-      into = offered_place f (view_flow x) size;
+      round = encode_round (if_ok (offer_answer f size (view_flow x)) (flow_lined (view_round r) f (view_flow x)) (view_round r));
+      flow = encode_flow (if_ok (offer_answer f size (view_flow x)) (packet_joined (view_flow x) size) (view_flow x));
+      reply = offered_place f (view_flow x) size;
     }

@@ -9,9 +9,7 @@ pub fn shift(cells: &mut [u8])
     requires { length cells.old ≡ line_room }
     ensures { cells.new ≡ drop 1 cells.old ++ drop (length cells.old - 1) cells.old }
 {
-    let mut i = 0;
-    while i < FLOW_LIMIT {
+    for i in 0..FLOW_LIMIT {
         cells[i] = cells[i + 1];
-        i += 1;
     }
 }

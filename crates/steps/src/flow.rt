@@ -23,111 +23,81 @@ fn worth(at: usize) -> u64
     1 << (DIGIT_BITS * at)
 }
 
-// Step 1: a packet of this size joins the end of the queue.
-pub fn joined(x: FlowCell, size: usize) -> FlowCell
-    requires { HasRoom x size }
-    ensures { result ≡ encode_flow (packet_joined (view_flow x) size) }
-{
-    let at = x.waiting as usize;
-    let sizes = x.sizes + worth(at) * (size - 1) as u64;
-    if at == 0 {
-        FlowCell {
-            weight: x.weight,
-            surplus: 0,
-            slot: x.slot,
-            waiting: 1,
-            sizes: sizes,
+impl FlowCell {
+    // Step 1: a packet of this size joins the end of the queue.
+    pub fn join(&mut self, size: usize)
+        requires { HasRoom self.old size }
+        ensures { self.new ≡ encode_flow (packet_joined (view_flow self.old) size) }
+    {
+        let at = self.waiting as usize;
+        if at == 0 {
+            self.surplus = 0;
         }
-    } else {
-        FlowCell {
-            weight: x.weight,
-            surplus: x.surplus,
-            slot: x.slot,
-            waiting: x.waiting + 1,
-            sizes: sizes,
-        }
+        self.sizes += worth(at) * (size - 1) as u64;
+        self.waiting += 1;
     }
-}
 
-// Step 1: where a packet of this size lies once it has joined the queue of flow f.
-pub fn end_place(f: usize, x: FlowCell, size: usize) -> Place
-    requires { FlowReady x }
-    ensures { result ≡ end_place f (view_flow x) size }
-{
-    let slot = (x.slot + x.waiting) % QUEUE_LIMIT;
-    Place {
-        flow: f,
-        slot: slot as usize,
-        size: size,
-    }
-}
-
-// Step 2: the surplus becomes 0.
-pub fn cleared(x: FlowCell) -> FlowCell
-    requires { FlowReady x }
-    ensures { result ≡ encode_flow (surplus_cleared (view_flow x)) }
-{
-    FlowCell {
-        weight: x.weight,
-        surplus: 0,
-        slot: x.slot,
-        waiting: x.waiting,
-        sizes: x.sizes,
-    }
-}
-
-// Step 3: the size of the first packet, if there is one; any flow may be asked.
-pub fn first_size(x: FlowCell) -> u16
-    ensures { HasFirst x → result ≡ first_size (view_flow x) }
-{
-    (x.sizes % BASE) as u16 + 1
-}
-
-// Step 3: where the first packet of flow f lies; any flow may be asked.
-pub fn first_place(f: usize, x: FlowCell) -> Place
-    ensures { FlowReady x → result ≡ first_place f (view_flow x) }
-{
-    let slot = x.slot as usize;
-    if x.waiting == 0 {
+    // Step 1: where a packet of this size lies once it has joined the queue of this flow, which has number f.
+    pub fn end_place(self, f: usize, size: usize) -> Place
+        requires { FlowReady self }
+        ensures { result ≡ end_place f (view_flow self) size }
+    {
+        let slot = ((self.slot + self.waiting) % QUEUE_LIMIT) as usize;
         Place {
             flow: f,
-            slot: slot,
-            size: 0,
+            slot,
+            size,
         }
-    } else {
+    }
+
+    // Step 2: the surplus becomes 0.
+    pub fn clear(&mut self)
+        requires { FlowReady self.old }
+        ensures { self.new ≡ encode_flow (surplus_cleared (view_flow self.old)) }
+    {
+        self.surplus = 0;
+    }
+
+    // Step 3: the size of the first packet, if there is one; any flow may be asked.
+    pub fn first_size(self) -> u16
+        ensures { HasFirst self → result ≡ first_size (view_flow self) }
+    {
+        (self.sizes % BASE) as u16 + 1
+    }
+
+    // Step 3: where the first packet of this flow lies, which has number f; any flow may be asked.
+    pub fn first_place(self, f: usize) -> Place
+        ensures { FlowReady self → result ≡ first_place f (view_flow self) }
+    {
+        let size = if self.waiting == 0 {
+            0
+        } else {
+            self.first_size() as usize
+        };
         Place {
             flow: f,
-            slot: slot,
-            size: first_size(x) as usize,
+            slot: self.slot as usize,
+            size,
         }
     }
-}
 
-// Step 3: the first packet leaves.
-pub fn first_left(x: FlowCell) -> FlowCell
-    requires { HasFirst x }
-    ensures { result ≡ encode_flow (first_left (view_flow x)) }
-{
-    FlowCell {
-        weight: x.weight,
-        surplus: x.surplus,
-        slot: (x.slot + 1) % QUEUE_LIMIT,
-        waiting: x.waiting - 1,
-        sizes: x.sizes / BASE,
+    // Step 3: the first packet leaves.
+    pub fn let_first_leave(&mut self)
+        requires { HasFirst self.old }
+        ensures { self.new ≡ encode_flow (first_left (view_flow self.old)) }
+    {
+        self.slot = (self.slot + 1) % QUEUE_LIMIT;
+        self.waiting -= 1;
+        self.sizes /= BASE;
     }
-}
 
-// Step 6: with packets waiting the surplus is the excess.
-pub fn excess_kept(x: FlowCell, allowed: u16, sent: u16) -> FlowCell
-    requires flow_ready { FlowReady x }
-    requires waiting_nonzero { (0 < x.waiting) × (allowed ≤ sent) }
-    ensures { result ≡ encode_flow (excess_kept (view_flow x) allowed sent) }
-{
-    FlowCell {
-        weight: x.weight,
-        surplus: sent - allowed,
-        slot: x.slot,
-        waiting: x.waiting,
-        sizes: x.sizes,
+    // Step 6: with packets waiting the surplus is the excess.
+    pub fn keep_excess(&mut self, allowed: u16, sent: u16)
+        requires flow_ready { FlowReady self.old }
+        requires some_wait { 0 < self.old.waiting }
+        requires allowance_sent { allowed ≤ sent }
+        ensures { self.new ≡ encode_flow (excess_kept (view_flow self.old) allowed sent) }
+    {
+        self.surplus = sent - allowed;
     }
 }

@@ -1,8 +1,8 @@
 // Document 01's steps, one function for each, and the checks of open and offer, on the parts of a state that a call concerns: the round's numbers and one
-// flow by value, the line lent. No user calls them: the state's calls stand above, and what a step may count on is shown there.
+// flow, and the line lent. No user calls them: the state's calls stand above, and what a step may count on is shown there.
 #![tactic(auto)]
 
-use model::{Answer, FLOW_LIMIT, Serving};
+use model::{FLOW_LIMIT, Serving};
 
 pub mod ask;
 mod cells;
@@ -38,20 +38,4 @@ pub struct Place {
     pub flow: usize,
     pub slot: usize,
     pub size: usize,
-}
-
-// What open makes of the flow that it concerns, with its answer.
-#[derive(Clone, Copy)]
-pub struct Opened {
-    pub flow: FlowCell,
-    pub answer: Answer,
-}
-
-// What offer makes of the line's length and of the flow that it concerns, with its answer and the packet's place.
-#[derive(Clone, Copy)]
-pub struct Offered {
-    pub length: u8,
-    pub flow: FlowCell,
-    pub answer: Answer,
-    pub into: Place,
 }

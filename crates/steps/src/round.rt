@@ -1,48 +1,14 @@
-// What the steps do to the round. A step that changes the line has it lent; the round's numbers go by value.
+// What the steps do to the round. A step that changes the line has it lent.
 ghost use Rattle.std.specs.Prelude.{◌≡◌, ℕ, ◌+◌, ◌*◌, ◌-◌, ◌≤◌, ◌<◌, max};
 ghost use Rattle.model.specs.Limits.{weight_limit, mark_limit, flow_limit};
 ghost use Rattle.model.specs.Model.{Round};
 ghost use Rattle.model.specs.Steps.{flow_lined, round_started, allowance as allowance_of, turn_opened, turn_kept, rounded_up, raised as raised_to, turn_closed};
 ghost use Rattle.steps.specs.Cells.{view_flow};
-ghost use Rattle.steps.specs.Premises.{in_place, view_round, encode_round, FlowReady, RoundReady, StepGives, sent_limit, with_length};
+ghost use Rattle.steps.specs.Premises.{in_place, view_round, encode_round, FlowReady, RoundReady, StepGives, sent_limit};
 
 use crate::cells::shift;
 use crate::{FlowCell, RoundCell};
 use model::Serving;
-
-// Step 1: a flow that was not active goes to the end of the line; tells how long the line then is.
-pub fn lined(line: &mut [u8], r: RoundCell, f: u8, was: FlowCell) -> u8
-    requires round_ready { RoundReady (in_place line.old r) }
-    requires flow_ready { FlowReady was }
-    requires length_lt_flow_limit { was.waiting ≡ 0 → r.length < flow_limit }
-    ensures { in_place line.new (with_length r result) ≡ encode_round (flow_lined (view_round (in_place line.old r)) f (view_flow was)) }
-{
-    if was.waiting == 0 {
-        let at = r.length as usize;
-        line[at] = f;
-        r.length + 1
-    } else {
-        r.length
-    }
-}
-
-// Step 2: a round starts where no visit is left.
-pub fn started(r: RoundCell) -> RoundCell
-    ensures { StepGives r round_started result }
-{
-    let turn = r.turn;
-    if r.visits == 0 {
-        RoundCell {
-            length: r.length,
-            visits: r.length,
-            mark: r.running,
-            running: 0,
-            turn: turn,
-        }
-    } else {
-        r
-    }
-}
 
 // Step 2: the allowance.
 pub fn allowance(weight: u16, mark: u16, surplus: u16) -> u16
@@ -50,35 +16,6 @@ pub fn allowance(weight: u16, mark: u16, surplus: u16) -> u16
     ensures { result ≡ allowance_of weight mark surplus }
 {
     weight * (1 + mark) - surplus
-}
-
-// Step 2: the head leaves the line and opens a turn.
-pub fn turn_opened(line: &mut [u8], r: RoundCell, f: u8, allowed: u16) -> RoundCell
-    requires round_ready { RoundReady (in_place line.old r) }
-    requires length_nonzero { 0 < r.length }
-    ensures { in_place line.new result ≡ encode_round (turn_opened (view_round (in_place line.old r)) f allowed) }
-{
-    shift(line);
-    RoundCell {
-        length: r.length - 1,
-        visits: r.visits,
-        mark: r.mark,
-        running: r.running,
-        turn: Serving::Turn(f, allowed, 0),
-    }
-}
-
-// Step 4: the turn stays open.
-pub fn turn_kept(r: RoundCell, f: u8, allowed: u16, sent: u16) -> RoundCell
-    ensures { StepGives r (λ (q : Round). turn_kept q f allowed sent) result }
-{
-    RoundCell {
-        length: r.length,
-        visits: r.visits,
-        mark: r.mark,
-        running: r.running,
-        turn: Serving::Turn(f, allowed, sent),
-    }
 }
 
 // Step 5: the excess by the weight, rounded up. A turn's flow has no weight 0; it is asked all the same, since before a division that could trap the
@@ -118,47 +55,80 @@ fn raised(running: u16, weight: u16, allowed: u16, sent: u16) -> u16
     }
 }
 
-// Steps 5 and 6: the turn ends with nothing waiting, and the flow stays out of the line.
-pub fn turn_emptied(r: RoundCell, left: FlowCell, allowed: u16, sent: u16) -> RoundCell
-    requires flow_ready { FlowReady left }
-    requires le_visits { (1 ≤ r.visits) × (r.running ≤ mark_limit) × (1 ≤ left.weight) × (sent < sent_limit) }
-    requires waiting_value { left.waiting ≡ 0 }
-    ensures { (f : ℕ) → StepGives r (λ (q : Round). turn_closed q (view_flow left) f allowed sent) result }
-{
-    let running = raised(r.running, left.weight, allowed, sent);
-    let visits = r.visits - 1;
-    RoundCell {
-        length: r.length,
-        visits: visits,
-        mark: r.mark,
-        running: running,
-        turn: Serving::NoTurn,
+impl RoundCell {
+    // Step 1: a flow that was not active goes to the end of the line.
+    pub fn line_up(&mut self, line: &mut [u8], f: u8, was: FlowCell)
+        requires round_ready { RoundReady (in_place line.old self.old) }
+        requires flow_ready { FlowReady was }
+        requires line_has_room { was.waiting ≡ 0 → self.old.length < flow_limit }
+        ensures { in_place line.new self.new ≡ encode_round (flow_lined (view_round (in_place line.old self.old)) f (view_flow was)) }
+    {
+        if was.waiting == 0 {
+            line[self.length as usize] = f;
+            self.length += 1;
+        }
     }
-}
 
-// Steps 5 and 6: the turn ends with packets waiting, and the flow goes to the end of the line.
-pub fn turn_closed(
-    line: &mut [u8],
-    r: RoundCell,
-    left: FlowCell,
-    f: u8,
-    allowed: u16,
-    sent: u16,
-) -> RoundCell
-    requires round_ready { RoundReady (in_place line.old r) }
-    requires flow_ready { FlowReady left }
-    requires length_lt_flow_limit { (r.length < flow_limit) × (1 ≤ r.visits) × (1 ≤ left.weight) × (allowed ≤ sent) × (sent < sent_limit) }
-    requires waiting_nonzero { 0 < left.waiting }
-    ensures { in_place line.new result ≡ encode_round (turn_closed (view_round (in_place line.old r)) (view_flow left) f allowed sent) }
-{
-    let at = r.length as usize;
-    line[at] = f;
-    let running = raised_to(r.running, left.weight, sent - allowed);
-    RoundCell {
-        length: r.length + 1,
-        visits: r.visits - 1,
-        mark: r.mark,
-        running: running,
-        turn: Serving::NoTurn,
+    // Step 2: a round starts where no visit is left.
+    pub fn start(&mut self)
+        ensures { StepGives self.old round_started self.new }
+    {
+        if self.visits == 0 {
+            self.visits = self.length;
+            self.mark = self.running;
+            self.running = 0;
+        }
+    }
+
+    // Step 2: the head leaves the line and opens a turn.
+    pub fn open_turn(&mut self, line: &mut [u8], f: u8, allowed: u16)
+        requires round_ready { RoundReady (in_place line.old self.old) }
+        requires some_in_line { 0 < self.old.length }
+        ensures { in_place line.new self.new ≡ encode_round (turn_opened (view_round (in_place line.old self.old)) f allowed) }
+    {
+        shift(line);
+        self.length -= 1;
+        self.turn = Serving::Turn(f, allowed, 0);
+    }
+
+    // Step 4: the turn stays open.
+    pub fn keep_turn(&mut self, f: u8, allowed: u16, sent: u16)
+        ensures { StepGives self.old (λ (q : Round). turn_kept q f allowed sent) self.new }
+    {
+        self.turn = Serving::Turn(f, allowed, sent);
+    }
+
+    // Steps 5 and 6: the turn ends with nothing waiting, and the flow stays out of the line.
+    pub fn end_emptied_turn(&mut self, left: FlowCell, allowed: u16, sent: u16)
+        requires flow_ready { FlowReady left }
+        requires none_wait { left.waiting ≡ 0 }
+        requires weighs { 1 ≤ left.weight }
+        requires a_visit_left { 1 ≤ self.old.visits }
+        requires running_in_range { self.old.running ≤ mark_limit }
+        requires sent_in_range { sent < sent_limit }
+        ensures { (f : ℕ) → StepGives self.old (λ (q : Round). turn_closed q (view_flow left) f allowed sent) self.new }
+    {
+        self.running = raised(self.running, left.weight, allowed, sent);
+        self.visits -= 1;
+        self.turn = Serving::NoTurn;
+    }
+
+    // Steps 5 and 6: the turn ends with packets waiting, and the flow goes to the end of the line.
+    pub fn close_turn(&mut self, line: &mut [u8], left: FlowCell, f: u8, allowed: u16, sent: u16)
+        requires round_ready { RoundReady (in_place line.old self.old) }
+        requires flow_ready { FlowReady left }
+        requires some_wait { 0 < left.waiting }
+        requires weighs { 1 ≤ left.weight }
+        requires line_has_room { self.old.length < flow_limit }
+        requires a_visit_left { 1 ≤ self.old.visits }
+        requires allowance_sent { allowed ≤ sent }
+        requires sent_in_range { sent < sent_limit }
+        ensures { in_place line.new self.new ≡ encode_round (turn_closed (view_round (in_place line.old self.old)) (view_flow left) f allowed sent) }
+    {
+        line[self.length as usize] = f;
+        self.length += 1;
+        self.running = raised_to(self.running, left.weight, sent - allowed);
+        self.visits -= 1;
+        self.turn = Serving::NoTurn;
     }
 }

@@ -12,8 +12,7 @@ loop-i-preserved c =
     let cells₀ = c.args.cells.now in
     let i = c.loop-i.i in
     let inv = c.loop-i.invariant in (
-      omega arith,
-      inv.1,
-      simp length-set inv.2,
-      ap (λ (l : List ℕ). set l i (get_or l (i + 1) 0)) inv.3 ∙ one_more_moves cells₀ i (omega arith) (omega arith),
+      inv.0,
+      simp length-set inv.1,
+      ap (λ (l : List ℕ). set l i (get_or l (i + 1) 0)) inv.2 ∙ one_more_moves cells₀ i (omega arith) (omega arith),
     )
