@@ -7,7 +7,6 @@ use native.Mathlib.Omega.{arith}
 use lib.ListN.{length, drop}
 use lib.Dec.{leb}
 use borrow.Author.Tests.{le-leb, lt-leb}
-use Rattle.model.specs.Limits.{flow_limit, mark_limit}
 use Rattle.model.specs.Model.{Flow}
 use Rattle.model.specs.Rules.{FlowRules}
 use Rattle.model.specs.Steps.{surplus_cleared, first_size, first_left, turn_ends, turn_kept, turn_closed, excess_kept, settled, served}
@@ -16,7 +15,7 @@ use Rattle.model.specs.declared.Reply.TheVariants.{Departure}
 use Rattle.model.proofs.Flows.{left_flow_rules}
 use Rattle.model.proofs.Choosing.{empty_by_count, waiting_by_count}
 use Rattle.steps.specs.Cells.{encode_flow, view_flow}
-use Rattle.steps.specs.Premises.{RoundInPlace, encode_round, view_round, FlowReady, RoundReady, sent_limit}
+use Rattle.steps.specs.Premises.{RoundInPlace, encode_round, view_round, FlowReady, sent_limit}
 use Rattle.turns.specs.Visits.{MayServe, VisitInPlace, encode_visit}
 use Rattle.steps.specs.declared.FlowCell.{FlowCell}
 use Rattle.steps.proofs.Encoded.{flow_seen, flow_ready, waiting_is}
@@ -61,24 +60,9 @@ module _ (r : RoundInPlace) (x : FlowCell) (allowed sent : ℕ) (h : MayServe r 
     left_seen : view_flow left ≡ first_left (view_flow x)
     left_seen = ap view_flow e ∙ flow_seen (first_left (view_flow x)) left_rules_here.sizes_in_range
 
-    left_weighs : 1 ≤ left.weight
+    pub left_weighs : 1 ≤ left.weight
     unfolding encode_flow first_left view_flow
     left_weighs = rw e h.weighs
-
-    -- What the ways on may count on: the turn ends with nothing waiting, or with packets waiting.
-    module _ (size : ℕ) (s : size ≡ first_size (view_flow x)) where
-      pub may_empty : left.waiting ≡ 0
-          → FlowReady left × (((1 ≤ r.visits) × (r.running ≤ mark_limit) × (1 ≤ left.weight) × (sent + size < sent_limit)) × (left.waiting ≡ 0))
-      may_empty none = (left_ready, ((h.a_visit_left, h.round_ready.running_in_range, left_weighs, sent_small size s), none))
-
-      pub may_close : (left.waiting ≡ 0 → ⊥) → allowed ≤ sent + size
-          → RoundReady r × (FlowReady left
-          × (((r.length < flow_limit) × (1 ≤ r.visits) × (1 ≤ left.weight) × (allowed ≤ sent + size) × (sent + size < sent_limit)) × (0 < left.waiting)))
-      may_close some enough =
-          (h.round_ready, (left_ready, ((h.line_has_room, h.a_visit_left, left_weighs, enough, sent_small size s), omega arith)))
-
-      pub may_keep : (left.waiting ≡ 0 → ⊥) → allowed ≤ sent + size → FlowReady left × ((0 < left.waiting) × (allowed ≤ sent + size))
-      may_keep some enough = (left_ready, (omega arith, enough))
 
     -- Whether the turn ends shows in how many wait and in what is sent.
     ends_with_none : (n : ℕ) → left.waiting ≡ 0 → turn_ends allowed n (view_flow left).queue ≡ true

@@ -9,7 +9,7 @@ use Rattle.model.specs.declared.Serving.TheVariants.{NoTurn, Turn}
 use Rattle.steps.specs.Cells.{encode_flow}
 use Rattle.steps.specs.Premises.{RoundInPlace, in_place, encode_round, view_round, FlowReady, HasFirst, RoundReady}
 use Rattle.steps.specs.declared.FlowCell.{FlowCell}
-use Rattle.turns.specs.declared.Visited.{Visited}
+use Rattle.steps.specs.declared.RoundCell.{RoundCell}
 
 -- A turn of the flow is open in which more may be sent.
 pub record MayServe (r : RoundInPlace) (x : FlowCell) (allowed sent : ℕ) : Type 0 where
@@ -54,5 +54,5 @@ pub record VisitInPlace : Type 0 where
 unfoldable pub encode_visit : Visit → VisitInPlace
 encode_visit v = record { round = encode_round v.round; flow = encode_flow v.flow; reply = v.reply }
 
-abbrev pub visit_in_place : List ℕ → Visited → VisitInPlace
-visit_in_place line v = record { round = in_place line v.round; flow = v.flow; reply = v.reply }
+abbrev pub visit_in_place : List ℕ → RoundCell → FlowCell → Reply → VisitInPlace
+visit_in_place line r x reply = record { round = in_place line r; flow = x; reply = reply }

@@ -10,99 +10,79 @@ ghost use Rattle.steps.specs.Premises.{in_place, view_round, encode_round, Round
 ghost use Rattle.turns.specs.Visits.{MayServe, MayBegin, MayVisit, begun_by, begun_turn, visit_in_place, encode_visit};
 
 use model::{Reply, Sent, Serving};
-use steps::{FlowCell, RoundCell, flow, round};
-
-// What a departure call makes of the round's numbers and of the flow whose turn it is, with its reply.
-#[derive(Clone, Copy)]
-pub struct Visited {
-    pub round: RoundCell,
-    pub flow: FlowCell,
-    pub reply: Reply,
-}
+use steps::{FlowCell, RoundCell, round};
 
 // Steps 3 to 6, in an open turn of flow f.
-fn served(line: &mut [u8], r: RoundCell, x: FlowCell, f: u8, allowed: u16, sent: u16) -> Visited
-    requires { MayServe (in_place line.old r) x allowed sent }
-    ensures { visit_in_place line.new result ≡ encode_visit (served_of (view_round (in_place line.old r)) (view_flow x) f allowed sent) }
+fn serve(
+    line: &mut [u8],
+    r: &mut RoundCell,
+    x: &mut FlowCell,
+    f: u8,
+    allowed: u16,
+    sent: u16,
+) -> Reply
+    requires { MayServe (in_place line.old r.old) x.old allowed sent }
+    ensures { visit_in_place line.new r.new x.new result ≡ encode_visit (served_of (view_round (in_place line.old r.old)) (view_flow x.old) f allowed sent) }
 {
-    let size = flow::first_size(x);
+    let size = x.first_size();
     let total = sent + size;
-    let left = flow::first_left(x);
-    let reply = Reply::Departure(Sent {
+    let mark = r.mark;
+    x.let_first_leave();
+    if x.waiting == 0 {
+        r.end_emptied_turn(*x, allowed, total);
+        x.clear();
+    } else if allowed <= total {
+        r.close_turn(line, *x, f, allowed, total);
+        x.keep_excess(allowed, total);
+    } else {
+        r.keep_turn(f, allowed, total);
+    }
+    Reply::Departure(Sent {
         flow: f,
-        size: size,
-        mark: r.mark,
+        size,
+        mark,
         allowance: allowed,
-    });
-    if left.waiting == 0 {
-        let over = round::turn_emptied(r, left, allowed, total);
-        let bare = flow::cleared(left);
-        return Visited {
-            round: over,
-            flow: bare,
-            reply: reply,
-        };
-    }
-    if allowed <= total {
-        let closed = round::turn_closed(line, r, left, f, allowed, total);
-        let kept = flow::excess_kept(left, allowed, total);
-        return Visited {
-            round: closed,
-            flow: kept,
-            reply: reply,
-        };
-    }
-    let open = round::turn_kept(r, f, allowed, total);
-    Visited {
-        round: open,
-        flow: left,
-        reply: reply,
-    }
+    })
 }
 
 // Step 2, with no open turn: a round starts where no visit is left, and the flow at the head of the line opens a turn.
-fn head_begun(line: &mut [u8], r: RoundCell, x: FlowCell) -> RoundCell
-    requires { MayBegin (in_place line.old r) x }
-    ensures { in_place line.new result ≡ encode_round (begun_by NoTurn (view_round (in_place line.old r)).line (view_round (in_place line.old r)) (view_flow x)) }
+fn begin_head(line: &mut [u8], r: &mut RoundCell, x: FlowCell)
+    requires { MayBegin (in_place line.old r.old) x }
+    ensures { in_place line.new r.new ≡ encode_round (begun_by NoTurn (view_round (in_place line.old r.old)).line (view_round (in_place line.old r.old)) (view_flow x)) }
 {
     let f = line[0];
-    let now = round::started(r);
-    let allowed = round::allowance(x.weight, now.mark, x.surplus);
-    round::turn_opened(line, now, f, allowed)
+    r.start();
+    let allowed = round::allowance(x.weight, r.mark, x.surplus);
+    r.open_turn(line, f, allowed);
 }
 
 // Step 2: a turn is open, or one is opened; none where nobody stands in line.
-fn begun(line: &mut [u8], r: RoundCell, x: FlowCell) -> RoundCell
-    requires { MayVisit (in_place line.old r) x }
-    ensures { in_place line.new result ≡ encode_round (begun_turn (view_round (in_place line.old r)) (view_flow x)) }
+fn begin(line: &mut [u8], r: &mut RoundCell, x: FlowCell)
+    requires { MayVisit (in_place line.old r.old) x }
+    ensures { in_place line.new r.new ≡ encode_round (begun_turn (view_round (in_place line.old r.old)) (view_flow x)) }
 {
-    let turn = r.turn;
-    match turn {
-        Serving::Turn(_, _, _) => r,
+    match r.turn {
+        Serving::Turn(_, _, _) => {}
         Serving::NoTurn => {
-            if r.length == 0 {
-                r
-            } else {
-                head_begun(line, r, x)
+            if r.length != 0 {
+                begin_head(line, r, x);
             }
         }
     }
 }
 
 // Steps 2 to 6. A flow whose turn is open has surplus 0 already, so it can be cleared whether its turn is opened here or was open.
-pub fn visit(line: &mut [u8], r: RoundCell, x: FlowCell) -> Visited
-    requires { MayVisit (in_place line.old r) x }
-    ensures { visit_in_place line.new result ≡ encode_visit (visit_of (view_round (in_place line.old r)) (view_flow x)) }
+pub fn visit(line: &mut [u8], r: &mut RoundCell, x: &mut FlowCell) -> Reply
+    requires { MayVisit (in_place line.old r.old) x.old }
+    ensures { visit_in_place line.new r.new x.new result ≡ encode_visit (visit_of (view_round (in_place line.old r.old)) (view_flow x.old)) }
 {
-    let open = begun(line, r, x);
-    let turn = open.turn;
-    match turn {
-        Serving::Turn(f, allowed, sent) => served(line, open, flow::cleared(x), f, allowed, sent),
-        Serving::NoTurn => Visited {
-            round: open,
-            flow: x,
-            reply: Reply::Idle,
-        },
+    begin(line, r, *x);
+    match r.turn {
+        Serving::Turn(f, allowed, sent) => {
+            x.clear();
+            serve(line, r, x, f, allowed, sent)
+        }
+        Serving::NoTurn => Reply::Idle,
     }
 }
 
@@ -110,8 +90,7 @@ pub fn visit(line: &mut [u8], r: RoundCell, x: FlowCell) -> Visited
 pub fn whose(head: u8, r: RoundCell) -> usize
     ensures { (line : List ℕ) → RoundReady (in_place line r) → head ≡ get_or line 0 0 → result ≡ whose_of (view_round (in_place line r)) }
 {
-    let turn = r.turn;
-    match turn {
+    match r.turn {
         Serving::Turn(f, _, _) => f as usize,
         Serving::NoTurn => head as usize,
     }
