@@ -8,25 +8,20 @@ use lib.ListN.{length, set, take, drop, length-set, length-map, take-append-drop
 use lib.Seq.{take-suc-set, drop-set-lt, length-take-le, drop-drop, append_snoc}
 use mathlib.Core.Bool.{Bool, cond}
 use borrow.Author.Tests.{lt-ltb, le-ltb}
-use Rattle.model.specs.Choose.{if_zero}
+use Rattle.std.specs.Prelude.{Ok, Err}
 use Rattle.model.specs.Model.{Scheduler}
-use Rattle.model.specs.Steps.{visit, whose}
 use Rattle.model.specs.Calls.{Departures, Burst, departed, departures, and_then, flow_numbers, burst, burst_made}
-use Rattle.model.specs.declared.Count.TheVariants.{Made, Refused as CountRefused}
+use Rattle.model.specs.declared.Outcome.{Outcome}
+use Rattle.model.specs.declared.Refusal.TheVariants.{ListShort}
 use Rattle.model.specs.declared.Reply.{Reply}
 use Rattle.model.specs.declared.Reply.TheVariants.{Departure, Idle, Refused}
 use Rattle.model.specs.declared.Sent.{Sent}
 use Rattle.model.proofs.Keeps.{departed_keeps}
-use Rattle.steps.specs.Cells.{view_flow}
-use Rattle.layout.specs.Layout.{flow_in, line_start, with_flow}
-use Rattle.order.specs.Encoding.{encode, view, Sound, state_with}
-use Rattle.steps.specs.Premises.{view_round}
-use Rattle.turns.specs.Visits.{encode_visit, visit_in_place}
-use Rattle.order.proofs.StateLaws.{round_of}
-use Rattle.order.specs.Promised.{counted_as, BurstGives}
+use Rattle.order.specs.Encoding.{encode, view, Sound}
+use Rattle.order.specs.Promised.{counted_as, departed_as, DepartGives, BurstGives}
 use Rattle.order.specs.declared.State.{State}
-use Rattle.turns.specs.declared.Visited.{Visited}
-use Rattle.order.proofs.StateLaws.{seen_as, sound_of, departed_state, departed_reply}
+use Rattle.order.specs.declared.Departed.{Departed}
+use Rattle.order.proofs.StateLaws.{seen_as, sound_of}
 
 -- After `made` departures, with the state c and the list as they then are.
 pub record Underway (s : Scheduler) (n : ℕ) (before : List ℕ) (c : State) (made : ℕ) (list : List ℕ) : Type 0 where
@@ -108,12 +103,12 @@ module _ (s : Scheduler) (n : ℕ) (before : List ℕ) (c : State) (made : ℕ) 
         ∙ ap length all_written
         ∙ length-take-le made list (omega (arith, U.list_fits, U.same_length, U.not_too_many))
 
-    burst_ends : (c₀ : State) → view c₀ ≡ s → BurstGives c₀ n before list (record { state = c'; count = Made made })
+    burst_ends : (c₀ : State) → view c₀ ≡ s → BurstGives c₀ n before list (record { state = c'; reply = Ok made })
     unfolding counted_as burst burst_made
     burst_ends c₀ same =
         record {
           outcome =
-              ap₂ (λ (t : State) (k : ℕ). record { state = t; count = Made k }) (end ∙ ap encode (sym U.same_end)) (sym how_many)
+              ap₂ (λ (t : State) (k : ℕ). record { state = t; reply = Ok k }) (end ∙ ap encode (sym U.same_end)) (sym how_many)
               ∙ ap counted_as (sym made_here);
           written =
               sym (take-append-drop made list)
@@ -125,15 +120,16 @@ module _ (s : Scheduler) (n : ℕ) (before : List ℕ) (c : State) (made : ℕ) 
         made_here : burst (view c₀) n before ≡ burst_made before (departures n s)
         made_here =
             ap (λ (t : Scheduler). burst t n before) same
-            ∙ ap (λ (k : ℕ). if_zero k (burst_made before (departures n s)) (record { state = s; list = before; reply = CountRefused k }))
-            (ap (λ (b : Bool). cond {A = ℕ} b 9 0) (le-ltb (length before) n U.list_fits))
+            ∙ ap (λ (short : Bool). cond short (record { state = s; list = before; reply = Err ListShort }) (burst_made before (departures n s)))
+            (le-ltb (length before) n U.list_fits)
 
-  pub all_made : n ≤ made → (c₀ : State) → view c₀ ≡ s → BurstGives c₀ n before list (record { state = c; count = Made made })
+  pub all_made : n ≤ made → (c₀ : State) → view c₀ ≡ s → BurstGives c₀ n before list (record { state = c; reply = Ok n })
   unfolding departures
-  all_made h =
-      burst_ends c U.sound
+  all_made h c₀ same =
+      subst (λ (k : ℕ). BurstGives c₀ n before list (record { state = c; reply = Ok k })) (omega (arith, U.not_too_many))
+      (burst_ends c U.sound
       (U.sound.form ∙ ap (λ (k : ℕ). encode (departures k (view c)).state) (sym nothing_left))
-      (ap (λ (k : ℕ). (departures k (view c)).sent) nothing_left)
+      (ap (λ (k : ℕ). (departures k (view c)).sent) nothing_left) c₀ same)
     where
       nothing_left : n - made ≡ 0
       nothing_left = omega (arith, U.not_too_many)
@@ -152,7 +148,7 @@ no_departure_ends (Refused n) k s more = refl
 
 module _ (s : Scheduler) (n : ℕ) (before : List ℕ) (c : State) (made : ℕ) (list : List ℕ) (U : Underway s n before c made list) where
   stopped : (c' : State) (r : Reply) → made < n → c' ≡ encode (departed (view c)).state → (departed (view c)).reply ≡ r
-      → NoDeparture r → (c₀ : State) → view c₀ ≡ s → BurstGives c₀ n before list (record { state = c'; count = Made made })
+      → NoDeparture r → (c₀ : State) → view c₀ ≡ s → BurstGives c₀ n before list (record { state = c'; reply = Ok made })
   stopped c' r h e reply kind =
       burst_ends s n before c made list U c'
       (subst Sound (sym e) (sound_of (departed (view c)).state (departed_keeps (view c) U.sound.rules)))
@@ -169,33 +165,33 @@ module _ (s : Scheduler) (n : ℕ) (before : List ℕ) (c : State) (made : ℕ) 
           ∙ ap (λ (d : Reply). and_then d (departed (view c)).state (departures (n - (made + 1)) (departed (view c)).state)) reply
           ∙ no_departure_ends r kind (departed (view c)).state (departures (n - (made + 1)) (departed (view c)).state)
 
--- The same of what a visit of the flow at `at` gives.
+-- The same of what a departure call gives.
 module _ (s : Scheduler) (n : ℕ) (before : List ℕ) (c : State) (made : ℕ) (list : List ℕ) (U : Underway s n before c made list) (more : made < n)
-    (at : ℕ) (e : at ≡ whose (view_round (round_of c))) (v : Visited) (line : List ℕ)
-    (g : visit_in_place line v ≡ encode_visit (visit (view_round (round_of c)) (view_flow (flow_in c.cells at)))) where
-  abbrev visited : State
-  visited = state_with (with_flow (take line_start c.cells ++ line) at v.flow) v.round
+    (r : Outcome State Departed) (g : DepartGives c r) where
+  pub departure_made : (d : Sent) → r.reply.reply ≡ Departure d → Underway s n before r.state (made + 1) (set list made d.flow)
+  unfolding departed_as
+  departure_made d e =
+      one_more_made s n before c made list U r.state d more (ap (λ (k : Outcome State Departed). k.state) g.outcome)
+      (sym (ap (λ (k : Outcome State Departed). k.reply.reply) g.outcome) ∙ e)
 
-  pub visit_made : (d : Sent) → v.reply ≡ Departure d → Underway s n before visited (made + 1) (set list made d.flow)
-  visit_made d r =
-      one_more_made s n before c made list U visited d more (departed_state c U.sound at e v line g) (sym (departed_reply c U.sound at e v line g) ∙ r)
-
-  pub visit_stops : NoDeparture v.reply → (c₀ : State) → view c₀ ≡ s
-      → BurstGives c₀ n before list (record { state = visited; count = Made made })
-  visit_stops kind =
-      stopped s n before c made list U visited v.reply more (departed_state c U.sound at e v line g) (sym (departed_reply c U.sound at e v line g)) kind
+  pub departure_stops : NoDeparture r.reply.reply → (c₀ : State) → view c₀ ≡ s
+      → BurstGives c₀ n before list (record { state = r.state; reply = Ok made })
+  unfolding departed_as
+  departure_stops kind =
+      stopped s n before c made list U r.state r.reply.reply more (ap (λ (k : Outcome State Departed). k.state) g.outcome)
+      (sym (ap (λ (k : Outcome State Departed). k.reply.reply) g.outcome)) kind
 
 -- A list that is too short is refused, and nothing changes.
-pub burst_refused : (c : State) (n : ℕ) (list : List ℕ) → Sound c → length list < n → BurstGives c n list list (record { state = c; count = CountRefused 9 })
+pub burst_refused : (c : State) (n : ℕ) (list : List ℕ) → Sound c → length list < n → BurstGives c n list list (record { state = c; reply = Err ListShort })
 unfolding counted_as burst
 burst_refused c n list S h =
     record {
-      outcome = ap (λ (t : State). record { state = t; count = CountRefused 9 }) S.form ∙ ap counted_as (sym refused_here);
+      outcome = ap (λ (t : State). record { state = t; reply = Err ListShort }) S.form ∙ ap counted_as (sym refused_here);
       written = ap (λ (b : Burst). b.list) (sym refused_here);
       sound = S;
     }
   where
-    refused_here : burst (view c) n list ≡ record { state = view c; list = list; reply = CountRefused 9 }
+    refused_here : burst (view c) n list ≡ record { state = view c; list = list; reply = Err ListShort }
     refused_here =
-        ap (λ (k : ℕ). if_zero k (burst_made list (departures n (view c))) (record { state = view c; list = list; reply = CountRefused k }))
-        (ap (λ (b : Bool). cond {A = ℕ} b 9 0) (lt-ltb (length list) n h))
+        ap (λ (short : Bool). cond short (record { state = view c; list = list; reply = Err ListShort }) (burst_made list (departures n (view c))))
+        (lt-ltb (length list) n h)

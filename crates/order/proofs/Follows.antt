@@ -2,10 +2,12 @@
 use Prim.Native.Nat.{ℕ, zero, suc, ◌≤◌}
 use mathlib.Core.Path.{◌≡◌, refl, sym, ap, ◌∙◌, subst}
 use mathlib.Core.List.{List, [], ◌∷◌, ◌++◌}
-use Rattle.model.specs.Model.{Scheduler, new_scheduler}
+use Rattle.model.specs.Model.{Scheduler, new_scheduler, flow_at}
+use Rattle.model.specs.Choose.{ok_with}
+use Rattle.steps.specs.Places.{joining_place, end_place}
 use Rattle.model.specs.Rules.{Rules, count, standing}
-use Rattle.model.specs.Replies.{of_answer, of_reply, of_count, sent_by, taken_by, made_by}
-use Rattle.model.specs.Calls.{opened, offered, departed, departures, and_then, burst}
+use Rattle.model.specs.Replies.{Answer, Count, of_answer, of_reply, of_count, sent_by, taken_by, made_by}
+use Rattle.model.specs.Calls.{opened, offered, unless_refused, offer_answer, departed, departures, and_then, burst}
 use Rattle.model.specs.Chain.{Seen, seen_reset, seen_asking, seen_departing}
 use Rattle.model.specs.OrderCalls.{Call, Packet, resetting, opening, offering, departing, bursting, does, order_calls}
 use Rattle.model.specs.declared.Reply.{Reply}
@@ -19,10 +21,11 @@ use Rattle.order.specs.Encoding.{encode, view, Sound}
 use Rattle.order.specs.Promised.{NewGives, DepartGives, answered_as, offered_as, departed_as, counted_as}
 use Rattle.order.specs.Runs.{Singles, none, one_more, Does, resets, opens, offers, departs, bursts}
 use Rattle.order.specs.declared.State.{State}
-use Rattle.order.specs.declared.Answered.{Answered}
+use Rattle.std.specs.Prelude.{Result, Ok, Err}
 use Rattle.order.specs.declared.Departed.{Departed}
-use Rattle.order.specs.declared.Placed.{Placed}
-use Rattle.order.specs.declared.Counted.{Counted}
+use Rattle.steps.specs.declared.Place.{Place}
+use Rattle.model.specs.declared.Outcome.{Outcome}
+use Rattle.model.specs.declared.Refusal.{Refusal}
 use Rattle.order.proofs.StateLaws.{seen_as, sound_of}
 
 -- A state stands for a scheduler that keeps the rules.
@@ -62,10 +65,10 @@ singles_made : {n : ℕ} {c t : State} {sent : List Sent} → Singles n c sent t
 unfolding departures departed_as
 singles_made none s S = record { sent_made = refl; leads_to = S.form }
 singles_made (one_more {n} {c} {t} {r} {sent} g more) s S =
-    let reply_is : r.reply ≡ (departed s).reply = ap (λ (d : Departed). d.reply) g.outcome ∙ ap (λ (k : Scheduler). (departed k).reply) (stands_for S) in
+    let reply_is : r.reply.reply ≡ (departed s).reply = ap (λ (d : Outcome State Departed). d.reply.reply) g.outcome ∙ ap (λ (k : Scheduler). (departed k).reply) (stands_for S) in
     let then : Stands r.state (departed s).state =
     record {
-      form = ap (λ (d : Departed). d.state) g.outcome ∙ ap (λ (k : Scheduler). encode (departed k).state) (stands_for S);
+      form = ap (λ (d : Outcome State Departed). d.state) g.outcome ∙ ap (λ (k : Scheduler). encode (departed k).state) (stands_for S);
       rules = departed_keeps s S.rules;
     } in
     let both = made_behind n s (departed s).state (departed s).reply sent t (still_after n s) (singles_made more (departed s).state then) in
@@ -73,50 +76,57 @@ singles_made (one_more {n} {c} {t} {r} {sent} g more) s S =
 
 -- ---- every call
 
+-- An answer with a place says and takes what the answer does.
+asked_as : (a : Answer) (place : Place) (p : Packet)
+    → ◌≡◌ {A = Seen Packet Sent} (seen_asking (of_answer (ok_with a place)) (taken_by (ok_with a place) p)) (seen_asking (of_answer a) (taken_by a p))
+asked_as (Ok done) place p = refl
+asked_as (Err r) place p = refl
+
 pub follows : (c : State) (s : Scheduler) (call : Call) (t : State) (e : Seen Packet Sent) → Stands c s → Does c call t e → Follows order_calls Does Stands s call t e
-unfolding does answered_as offered_as departed_as counted_as
+unfolding does answered_as offered_as departed_as counted_as offered unless_refused
 follows c s call t e S (resets g) = record { stands_then = new_stands g; seen_same = refl }
 follows c s call t e S (opens {f} {weight} g) =
     record {
       stands_then =
           record {
-            form = ap (λ (a : Answered). a.state) g.outcome ∙ ap (λ (k : Scheduler). encode (opened k f weight).state) (stands_for S);
+            form = ap (λ (a : Outcome State Answer). a.state) g.outcome ∙ ap (λ (k : Scheduler). encode (opened k f weight).state) (stands_for S);
             rules = every_call_keeps s (opening f weight) S.rules;
           };
       seen_same =
-          ap (λ (a : Answered). seen_asking (of_answer a.answer) []) g.outcome
+          ap (λ (a : Outcome State Answer). seen_asking (of_answer a.reply) []) g.outcome
           ∙ ap (λ (k : Scheduler). seen_asking (of_answer (opened k f weight).reply) []) (stands_for S);
     }
 follows c s call t e S (offers {f} {size} g) =
     record {
       stands_then =
           record {
-            form = ap (λ (a : Placed). a.state) g.outcome ∙ ap (λ (k : Scheduler). encode (offered k f size).state) (stands_for S);
+            form = ap (λ (a : Outcome State (Result Place Refusal)). a.state) g.outcome ∙ ap (λ (k : Scheduler). encode (offered k f size).state) (stands_for S);
             rules = every_call_keeps s (offering f size) S.rules;
           };
       seen_same =
-          ap (λ (a : Placed). seen_asking (of_answer a.answer) (taken_by a.answer (record { flow = f; size = size }))) g.outcome
-          ∙ ap (λ (k : Scheduler). seen_asking (of_answer (offered k f size).reply) (taken_by (offered k f size).reply (record { flow = f; size = size }))) (stands_for S);
+          ap (λ (a : Outcome State (Result Place Refusal)). seen_asking (of_answer a.reply) (taken_by a.reply (record { flow = f; size = size }))) g.outcome
+          ∙ ap (λ (k : Scheduler). seen_asking (of_answer (joining_place k f size)) (taken_by (joining_place k f size) (record { flow = f; size = size }))) (stands_for S)
+          ∙ asked_as (offer_answer f size (flow_at s f)) (end_place f (flow_at s f) size) (record { flow = f; size = size });
     }
 follows c s call t e S (departs g) =
     record {
       stands_then =
           record {
-            form = ap (λ (a : Departed). a.state) g.outcome ∙ ap (λ (k : Scheduler). encode (departed k).state) (stands_for S);
+            form = ap (λ (a : Outcome State Departed). a.state) g.outcome ∙ ap (λ (k : Scheduler). encode (departed k).state) (stands_for S);
             rules = every_call_keeps s departing S.rules;
           };
       seen_same =
-          ap (λ (a : Departed). seen_departing (of_reply a.reply) [] [] (sent_by a.reply)) g.outcome
+          ap (λ (a : Outcome State Departed). seen_departing (of_reply a.reply.reply) [] [] (sent_by a.reply.reply)) g.outcome
           ∙ ap (λ (k : Scheduler). seen_departing (of_reply (departed k).reply) [] [] (sent_by (departed k).reply)) (stands_for S);
     }
 follows c s call t e S (bursts {n} {before} {list} {r} {sent} g singles) =
-    let counted : r.count ≡ (burst s n before).reply = ap (λ (a : Counted). a.count) g.outcome ∙ ap (λ (k : Scheduler). (burst k n before).reply) (stands_for S) in
+    let counted : r.reply ≡ (burst s n before).reply = ap (λ (a : Outcome State Count). a.reply) g.outcome ∙ ap (λ (k : Scheduler). (burst k n before).reply) (stands_for S) in
     let written : list ≡ (burst s n before).list = g.written ∙ ap (λ (k : Scheduler). (burst k n before).list) (stands_for S) in
     let made : sent ≡ (departures n s).sent = (singles_made singles s S).sent_made in
     record {
       stands_then =
           record {
-            form = ap (λ (a : Counted). a.state) g.outcome ∙ ap (λ (k : Scheduler). encode (burst k n before).state) (stands_for S);
+            form = ap (λ (a : Outcome State Count). a.state) g.outcome ∙ ap (λ (k : Scheduler). encode (burst k n before).state) (stands_for S);
             rules = every_call_keeps s (bursting n before) S.rules;
           };
       seen_same = λ i. seen_departing (of_count (counted i)) before (written i) (made_by (counted i) (made i));
@@ -136,10 +146,10 @@ singles_exist : (n : ℕ) (c : State) (s : Scheduler) → Stands c s → (sent :
 unfolding departed_as
 singles_exist zero c s S = ([], c, none)
 singles_exist (suc n) c s S =
-    let r : Departed = departed_as (view c) in
+    let r : Outcome State Departed = departed_as (view c) in
     let g : DepartGives c r = record { outcome = refl; sound = sound_of (departed (view c)).state (departed_keeps (view c) (sound_of_standing S).rules) } in
     let more = singles_exist n r.state (departed (view c)).state (record { form = refl; rules = departed_keeps (view c) (sound_of_standing S).rules }) in
-    (sent_by r.reply ++ more.0, more.1, one_more g more.2)
+    (sent_by r.reply.reply ++ more.0, more.1, one_more g more.2)
 
 pub has_outcome : (c : State) (s : Scheduler) → Stands c s → (call : Call) → (t : State) × (e : Seen Packet Sent) × Does c call t e
 unfolding answered_as offered_as departed_as counted_as

@@ -6,41 +6,42 @@ use mathlib.Core.List.{List, [], ◌∷◌, ◌++◌, map}
 use mathlib.Core.Bool.{Bool, cond}
 use native.Mathlib.Omega.{arith}
 use native.Mathlib.Decide.{dec_lt}
-use lib.ListN.{length, get_or, set, take, length-map, get_or-map}
+use lib.ListN.{length, get_or, set, take, length-map, get_or-map, take-append-drop}
 use lib.Dec.{ltb, leb}
 use borrow.Author.Tests.{lt-ltb, le-ltb, le-leb}
 use Rattle.model.specs.Limits.{flow_limit}
-use Rattle.model.specs.Choose.{if_zero}
+use Rattle.std.specs.Prelude.{Result, Ok, Err}
+use Rattle.model.specs.Choose.{if_ok, ok_with}
+use Rattle.model.specs.Replies.{Answer}
 use Rattle.model.specs.Model.{Flow, Round, Scheduler, closed_flow, flow_at, new_scheduler}
 use Rattle.model.specs.Steps.{visit, whose, whose_turn, packet_joined, flow_lined}
-use Rattle.model.specs.Calls.{put, unless_refused, open_refusal, offer_refusal, open_flow, answer_of, opened, offered, departed, next_visit}
+use Rattle.model.specs.Calls.{put, unless_refused, open_answer, offer_answer, open_flow, opened, offered, departed, next_visit}
 use Rattle.model.specs.Rules.{Sizes, Rules}
-use Rattle.model.specs.declared.Answer.{Answer}
+use Rattle.model.specs.declared.Outcome.{Outcome}
+use Rattle.model.specs.declared.Refusal.{Refusal}
+use Rattle.model.specs.declared.Refusal.TheVariants.{NoSuchFlow}
+use Rattle.model.specs.declared.Reply.{Reply}
 use Rattle.model.specs.declared.Serving.{Serving}
 use Rattle.model.specs.declared.Serving.TheVariants.{Turn}
 use Rattle.model.proofs.Departing.{visit_weight}
-use Rattle.model.proofs.Flows.{put_back, none_is_empty}
+use Rattle.model.proofs.Flows.{none_is_empty}
 use Rattle.model.proofs.Keeps.{new_keeps, opened_keeps, offered_keeps, departed_keeps}
 use Rattle.model.proofs.Standing.{InRange, TurnFacts, HeadFacts, in_range, room_for_another, turn_facts, head_facts, whose_in_reach}
-use Rattle.model.proofs.Choosing.{positive_chosen, chosen_has}
+use Rattle.model.proofs.Choosing.{ok_has}
+use Rattle.model.proofs.Refusals.{not_done}
 use Rattle.steps.specs.Cells.{cells, line_room, encode_flow, view_flow}
 use Rattle.layout.specs.Layout.{bytes_of, cells_length, flow_in, line_in, line_start, with_flow, with_opened}
 use Rattle.layout.proofs.Laws.{no_cell, Fits, bytes_length, flow_read, flows_read, line_read, line_stored, flow_stored, opened_stored}
 use Rattle.order.specs.Encoding.{encode, view, Sound, state_with}
-use Rattle.steps.specs.Places.{end_place, nowhere, offered_place, joining_place, first_place, leaving_place}
-use Rattle.steps.specs.Premises.{RoundInPlace, in_place, numbers_of, encode_round, view_round, FlowReady, RoundReady, HasFirst, OfferInPlace, with_length, offer_in_place, opened_parts, offered_parts}
+use Rattle.steps.specs.Places.{end_place, offered_place, joining_place, first_place, leaving_place}
+use Rattle.steps.specs.Premises.{RoundInPlace, in_place, numbers_of, encode_round, view_round, FlowReady, RoundReady, HasFirst, OpenInPlace, OfferInPlace, open_in_place, offer_in_place, opened_parts, offered_parts}
 use Rattle.turns.specs.Visits.{MayServe, MayBegin, MayVisit, VisitInPlace, encode_visit, visit_in_place}
-use Rattle.order.specs.Promised.{answered_as, offered_as, departed_as, NewGives, OpenGives, OfferGives, DepartGives}
-use Rattle.order.specs.declared.Answered.{Answered}
-use Rattle.steps.specs.declared.Offered.{Offered}
-use Rattle.steps.specs.declared.Opened.{Opened}
+use Rattle.order.specs.Promised.{answered_as, offered_as, departed_as, NewGives, OpenGives, OfferGives, DepartGives, left_by}
 use Rattle.order.specs.declared.Departed.{Departed}
 use Rattle.steps.specs.declared.FlowCell.{FlowCell}
 use Rattle.steps.specs.declared.Place.{Place}
-use Rattle.order.specs.declared.Placed.{Placed}
 use Rattle.steps.specs.declared.RoundCell.{RoundCell}
 use Rattle.order.specs.declared.State.{State}
-use Rattle.turns.specs.declared.Visited.{Visited}
 use Rattle.steps.proofs.Encoded.{cells_as_long, flow_seen, flow_ready, round_seen, waiting_is, length_is}
 use Rattle.steps.proofs.Packed.{packed_fits}
 
@@ -56,6 +57,15 @@ any_default (x ∷ l) (suc n) d e h = any_default l n d e (omega arith)
 flows_seen : (l : List Flow) → ((f : ℕ) → Sizes (get_or l f closed_flow).queue) → map view_flow (map encode_flow l) ≡ l
 flows_seen [] h = refl
 flows_seen (x ∷ l) h = ap₂ (λ (y : Flow) (k : List Flow). y ∷ k) (flow_seen x (h 0)) (flows_seen l (λ f. h (suc f)))
+
+-- Whether an answer with a place was good shows in the answer.
+passed_with : {A : Type 0} {x : A} (p : A) (a : Answer) → ◌≡◌ {A = Result A Refusal} (Ok x) (ok_with a p) → Ok tt ≡ a
+passed_with p (Ok done) e = refl
+passed_with {A} {x} p (Err k) e = let z : ◌≡◌ {A = ℕ} 0 1 = ap {B = ℕ} (λ (r : Result A Refusal). if_ok r 0 1) e in absurd (omega arith)
+
+refused_with : {A : Type 0} (p : A) (a : Answer) (k : Refusal) → ◌≡◌ {A = Result A Refusal} (Err k) (ok_with a p) → Err k ≡ a
+refused_with {A} p (Ok done) k e = let z : ◌≡◌ {A = ℕ} 0 1 = ap {B = ℕ} (λ (r : Result A Refusal). if_ok r 1 0) e in absurd (omega arith)
+refused_with {A} p (Err j) k e = ap {B = Answer} (λ (r : Result A Refusal). ok_with r tt) e
 
 -- The flows that a scheduler's bytes hold.
 module _ (s : Scheduler) (R : Rules s) where
@@ -84,17 +94,17 @@ seen_as {c} {s} R e = ap view e ∙ seen s R
 
 -- What the state given back stands for.
 module _ {c : State} (S : Sound c) where
-  pub open_seen : {f weight : ℕ} {r : Answered} → OpenGives c f weight r → view r.state ≡ (opened (view c) f weight).state
+  pub open_seen : {f weight : ℕ} {r : Outcome State Answer} → OpenGives c f weight r → view r.state ≡ (opened (view c) f weight).state
   unfolding answered_as
-  open_seen {f} {weight} g = seen_as (opened_keeps (view c) f weight S.rules) (ap (λ (a : Answered). a.state) g.outcome)
+  open_seen {f} {weight} g = seen_as (opened_keeps (view c) f weight S.rules) (ap (λ (a : Outcome State Answer). a.state) g.outcome)
 
-  pub offer_seen : {f size : ℕ} {r : Placed} → OfferGives c f size r → view r.state ≡ (offered (view c) f size).state
+  pub offer_seen : {f size : ℕ} {r : Outcome State (Result Place Refusal)} → OfferGives c f size r → view r.state ≡ (offered (view c) f size).state
   unfolding offered_as
-  offer_seen {f} {size} g = seen_as (offered_keeps (view c) f size S.rules) (ap (λ (a : Placed). a.state) g.outcome)
+  offer_seen {f} {size} g = seen_as (offered_keeps (view c) f size S.rules) (ap (λ (a : Outcome State (Result Place Refusal)). a.state) g.outcome)
 
-  pub depart_seen : {r : Departed} → DepartGives c r → view r.state ≡ (departed (view c)).state
+  pub depart_seen : {r : Outcome State Departed} → DepartGives c r → view r.state ≡ (departed (view c)).state
   unfolding departed_as
-  depart_seen g = seen_as (departed_keeps (view c) S.rules) (ap (λ (a : Departed). a.state) g.outcome)
+  depart_seen g = seen_as (departed_keeps (view c) S.rules) (ap (λ (a : Outcome State Departed). a.state) g.outcome)
 
 pub sound_of : (s : Scheduler) → Rules s → Sound (encode s)
 sound_of s R = record { form = ap encode (sym (seen s R)); rules = subst Rules (sym (seen s R)) R }
@@ -253,15 +263,15 @@ module _ (c : State) (S : Sound c) where
     place_seen =
         ap (first_place at) (cell_seen at at_in_reach) ∙ ap (λ (k : ℕ). first_place k (flow_at (view c) k)) e
 
-    module _ (v : Visited) (line : List ℕ) (g : visit_in_place line v ≡ encode_visit (visit (view_round (round_of c)) (view_flow (flow_in c.cells at)))) where
-      pub visit_seen : visit_in_place line v ≡ encode_visit (next_visit (view c))
+    module _ (then : RoundCell) (left : FlowCell) (reply : Reply) (line : List ℕ) (g : visit_in_place line then left reply ≡ encode_visit (visit (view_round (round_of c)) (view_flow (flow_in c.cells at)))) where
+      pub visit_seen : visit_in_place line then left reply ≡ encode_visit (next_visit (view c))
       unfolding view view_round
       visit_seen =
           g
           ∙ ap (λ (y : Flow). encode_visit (visit (view c).round y)) (cell_seen at at_in_reach)
           ∙ ap (λ (k : ℕ). encode_visit (visit (view c).round (flow_at (view c) k))) e
 
-      weight_kept : v.flow.weight ≡ (flow_in c.cells at).weight
+      weight_kept : left.weight ≡ (flow_in c.cells at).weight
       unfolding encode_visit encode_flow view view_round
       weight_kept =
           ap (λ (k : VisitInPlace). k.flow.weight) visit_seen
@@ -269,25 +279,25 @@ module _ (c : State) (S : Sound c) where
           ∙ ap (λ (k : ℕ). (flow_at (view c) k).weight) (sym e)
           ∙ sym (weight_is at at_in_reach)
 
-      pub departed_state : state_with (with_flow (take line_start c.cells ++ line) at v.flow) v.round ≡ encode (departed (view c)).state
+      pub departed_state : state_with (with_flow (take line_start c.cells ++ line) at left) then ≡ encode (departed (view c)).state
       unfolding departed encode_visit view view_round
       departed_state =
-          put_law (with_flow (take line_start c.cells ++ line) at v.flow) at v.flow line v.round (next_visit (view c)).flow (next_visit (view c)).round
-          (stored_behind at at_in_reach v.flow line weight_kept)
+          put_law (with_flow (take line_start c.cells ++ line) at left) at left line then (next_visit (view c)).flow (next_visit (view c)).round
+          (stored_behind at at_in_reach left line weight_kept)
           (ap (λ (k : VisitInPlace). k.flow) visit_seen)
           (ap (λ (k : VisitInPlace). k.round) visit_seen)
           ∙ ap (λ (k : ℕ). encode (put (view c) k (next_visit (view c)).flow (next_visit (view c)).round)) e
 
-      pub departed_reply : v.reply ≡ (departed (view c)).reply
+      pub departed_reply : reply ≡ (departed (view c)).reply
       unfolding departed encode_visit
       departed_reply = ap (λ (k : VisitInPlace). k.reply) visit_seen
 
       pub departed_gives : (from : Place) → (FlowReady (flow_in c.cells at) → from ≡ first_place at (view_flow (flow_in c.cells at)))
-          → DepartGives c (record { state = state_with (with_flow (take line_start c.cells ++ line) at v.flow) v.round; reply = v.reply; from = from })
+          → DepartGives c (left_by (with_flow (take line_start c.cells ++ line) at left) then (record { reply = reply; from = from }))
       unfolding departed_as
       departed_gives from lay =
           record {
-            outcome = λ i. record { state = departed_state i; reply = departed_reply i; from = (lay (cell_ready at at_in_reach) ∙ place_seen) i };
+            outcome = λ i. record { state = departed_state i; reply = record { reply = departed_reply i; from = (lay (cell_ready at at_in_reach) ∙ place_seen) i } };
             sound = subst Sound (sym departed_state) (sound_of (departed (view c)).state (departed_keeps (view c) S.rules));
           }
 
@@ -303,88 +313,84 @@ module _ (c : State) (S : Sound c) where
     index_is : f < flow_limit → at ≡ f
     index_is b = e ∙ ap (λ (t : Bool). cond t f 0) (lt-ltb f flow_limit b)
 
-    -- Where a call is refused one flow is put back as it was, and otherwise its own is put anew.
-    put_unless : (n : ℕ) (y : Flow) (q : Round) → (n ≡ 0 → at ≡ f)
-        → put (view c) at (if_zero n y (flow_at (view c) at)) (if_zero n q (view c).round) ≡ if_zero n (put (view c) f y q) (view c)
-    put_unless zero y q h = ap (λ (k : ℕ). put (view c) k y q) (h refl)
-    put_unless (suc n) y q h = put_back (view c) at
-
-    -- For a check ρ that refuses numbers that no flow has, and an effect on the flow and the round.
-    module _ (ρ : Flow → ℕ) (refuses : (y : Flow) → flow_limit ≤ f → ρ y ≡ 1) (flow : Flow → Flow) (round : Flow → Round) where
+    -- For a check ρ that refuses numbers that no flow has.
+    module _ (ρ : Flow → Answer) (refuses : (y : Flow) → flow_limit ≤ f → ρ y ≡ Err NoSuchFlow) where
       abbrev looked_at : Flow
       looked_at = flow_at (view c) at
 
-      effect_here : ρ looked_at ≡ 0 → at ≡ f
-      effect_here z =
-          elim (dec_lt f flow_limit) [
-            | yes b ↦ index_is b
-            | no b ↦ absurd (omega (arith, refuses looked_at (omega arith)))
-          ]
-
-      -- What follows from the flow where nothing refuses, and otherwise does not depend on it.
-      same_choice : {A : Type 0} (made : Flow → A) (kept : A)
-          → if_zero (ρ looked_at) (made looked_at) kept ≡ if_zero (ρ (flow_at (view c) f)) (made (flow_at (view c) f)) kept
-      same_choice made kept =
-          elim (dec_lt f flow_limit) [
-            | yes b ↦ ap (λ (k : ℕ). if_zero (ρ (flow_at (view c) k)) (made (flow_at (view c) k)) kept) (index_is b)
-            | no b ↦
-                positive_chosen (ρ looked_at) (made looked_at) kept (λ z. omega (arith, refuses looked_at (omega arith)))
-                ∙ sym (positive_chosen (ρ (flow_at (view c) f)) (made (flow_at (view c) f)) kept (λ z. omega (arith, refuses (flow_at (view c) f) (omega arith))))
-          ]
-
-      same_number : ρ looked_at ≡ ρ (flow_at (view c) f)
-      same_number =
+      same_answer : ρ looked_at ≡ ρ (flow_at (view c) f)
+      same_answer =
           elim (dec_lt f flow_limit) [
             | yes b ↦ ap (λ (k : ℕ). ρ (flow_at (view c) k)) (index_is b)
             | no b ↦ refuses looked_at (omega arith) ∙ sym (refuses (flow_at (view c) f) (omega arith))
           ]
 
-      module _ (bytes : List ℕ) (cell : FlowCell) (line : List ℕ) (r : RoundCell) (answer : Answer) (x : Flow) (i : x ≡ looked_at)
-          (stored : bytes ≡ bytes_of (set flow_cells at cell) line) (g : cell ≡ encode_flow (if_zero (ρ x) (flow x) x)) (h : in_place line r ≡ encode_round (if_zero (ρ x) (round x) (view c).round)) (k : answer ≡ answer_of (ρ x)) where
-        asked_state : state_with bytes r
+      -- Where nothing refuses, the flow looked at is the one asked for.
+      index_passed : Ok tt ≡ ρ looked_at → at ≡ f
+      index_passed e =
+          elim (dec_lt f flow_limit) [
+            | yes b ↦ index_is b
+            | no b ↦ absurd (not_done NoSuchFlow (sym (refuses looked_at (omega arith)) ∙ sym e))
+          ]
+
+      module _ (x : Flow) (i : x ≡ looked_at) where
+        answer_seen : (a : Answer) → a ≡ ρ x → a ≡ ρ (flow_at (view c) f)
+        answer_seen a k = k ∙ ap ρ i ∙ same_answer
+
+        -- Accepted: one flow is put anew, with a round.
+        passed_state : (flow : Flow → Flow) (round : Flow → Round) (bytes : List ℕ) (cell : FlowCell) (line : List ℕ) (r : RoundCell)
+            → bytes ≡ bytes_of (set flow_cells at cell) line → cell ≡ encode_flow (flow x) → in_place line r ≡ encode_round (round x) → Ok tt ≡ ρ x
+            → state_with bytes r
             ≡ encode (unless_refused (ρ (flow_at (view c) f)) (view c) (put (view c) f (flow (flow_at (view c) f)) (round (flow_at (view c) f)))).state
         unfolding unless_refused
-        asked_state =
-            put_law bytes at cell line r (if_zero (ρ x) (flow x) x) (if_zero (ρ x) (round x) (view c).round) stored g h
-            ∙ ap encode
-            (ap (λ (y : Flow). put (view c) at (if_zero (ρ y) (flow y) y) (if_zero (ρ y) (round y) (view c).round)) i
-            ∙ put_unless (ρ looked_at) (flow looked_at) (round looked_at) effect_here
-            ∙ same_choice (λ y. put (view c) f (flow y) (round y)) (view c))
+        passed_state flow round bytes cell line r stored g h k =
+            put_law bytes at cell line r (flow x) (round x) stored g h
+            ∙ ap (λ (y : Flow). encode (put (view c) at (flow y) (round y))) i
+            ∙ ap (λ (j : ℕ). encode (put (view c) j (flow (flow_at (view c) j)) (round (flow_at (view c) j)))) (index_passed (k ∙ ap ρ i))
+            ∙ ap (λ (a : Answer). encode (if_ok a (put (view c) f (flow (flow_at (view c) f)) (round (flow_at (view c) f))) (view c))) (answer_seen (Ok tt) k)
 
-        asked_answer : answer
-            ≡ (unless_refused (ρ (flow_at (view c) f)) (view c) (put (view c) f (flow (flow_at (view c) f)) (round (flow_at (view c) f)))).reply
+        -- Refused: the state is as it was.
+        refused_state : (k : Refusal) (t : Scheduler) → Err k ≡ ρ x → c ≡ encode (unless_refused (ρ (flow_at (view c) f)) (view c) t).state
         unfolding unless_refused
-        asked_answer = k ∙ ap (λ (y : Flow). answer_of (ρ y)) i ∙ ap answer_of same_number
+        refused_state k t e = S.form ∙ ap (λ (a : Answer). encode (if_ok a t (view c))) (answer_seen (Err k) e)
 
-        asked_outcome : record { state = state_with bytes r; answer = answer }
-            ≡ answered_as (unless_refused (ρ (flow_at (view c) f)) (view c) (put (view c) f (flow (flow_at (view c) f)) (round (flow_at (view c) f))))
-        unfolding answered_as
-        asked_outcome = ap₂ (λ (t : State) (d : Answer). record { state = t; answer = d }) asked_state asked_answer
+    no_such_flow : (rest : Answer) → flow_limit ≤ f → cond (leb flow_limit f) (Err NoSuchFlow) rest ≡ Err NoSuchFlow
+    no_such_flow rest h = ap (λ (t : Bool). cond t (Err NoSuchFlow) rest) (le-leb flow_limit f h)
 
-    no_such_flow : (rest : ℕ) → flow_limit ≤ f → cond (leb flow_limit f) 1 rest ≡ 1
-    no_such_flow rest h = ap (λ (t : Bool). cond t 1 rest) (le-leb flow_limit f h)
+    abbrev asked : Flow
+    asked = view_flow (flow_in c.cells at)
 
-    pub opened_gives : (weight : ℕ) (a : Opened) → a ≡ opened_parts (flow_in c.cells at) f weight
-        → OpenGives c f weight (record { state = state_with (with_opened c.cells at a.flow) c.round; answer = a.answer })
-    unfolding opened_parts view view_round opened answered_as
-    opened_gives weight a g =
-        record {
-          outcome = outcome_here;
-          sound = subst (λ (r : Answered). Sound r.state) (sym outcome_here) (sound_of (opened (view c) f weight).state (opened_keeps (view c) f weight S.rules));
-        }
-      where
-        x : Flow
-        x = view_flow (flow_in c.cells at)
+    module _ (weight : ℕ) where
+      opened_outcome : {r : Outcome State Answer} → r ≡ answered_as (opened (view c) f weight) → OpenGives c f weight r
+      unfolding answered_as
+      opened_outcome e =
+          record {
+            outcome = e;
+            sound = subst (λ (r : Outcome State Answer). Sound r.state) (sym e) (sound_of (opened (view c) f weight).state (opened_keeps (view c) f weight S.rules));
+          }
 
-        outcome_here : record { state = state_with (with_opened c.cells at a.flow) c.round; answer = a.answer }
-            ≡ answered_as (opened (view c) f weight)
-        outcome_here =
-            asked_outcome (open_refusal f weight) (λ y h. no_such_flow _ h) (λ y. open_flow weight) (λ y. (view c).round)
-            (with_opened c.cells at a.flow) a.flow (line_in c.cells) c.round a.answer x (cell_seen at index_in_reach)
-            (stored_opened at index_in_reach a.flow)
-            (ap (λ (k : Opened). k.flow) g)
-            (round_form ∙ ap encode_round (sym (chosen_has (λ (r : Round). r ≡ (view c).round) (open_refusal f weight x) (view c).round (view c).round (λ z. refl) refl)))
-            (ap (λ (k : Opened). k.answer) g)
+      pub opened_gives : (x : FlowCell) → open_in_place x (Ok tt) ≡ opened_parts (flow_in c.cells at) f weight
+          → OpenGives c f weight (left_by (with_opened c.cells at x) c.round (Ok tt))
+      unfolding opened_parts view view_round opened answered_as unless_refused
+      opened_gives x g =
+          let passes : Ok tt ≡ open_answer f weight asked = ap (λ (k : OpenInPlace). k.answer) g in
+          opened_outcome
+          (ap₂ (λ (t : State) (a : Answer). record { state = t; reply = a })
+          (passed_state (open_answer f weight) (λ y h. no_such_flow _ h) asked (cell_seen at index_in_reach) (λ y. open_flow weight) (λ y. (view c).round)
+          (with_opened c.cells at x) x (line_in c.cells) c.round (stored_opened at index_in_reach x)
+          (ap (λ (k : OpenInPlace). k.flow) g ∙ ap (λ (a : Answer). encode_flow (if_ok a (open_flow weight) asked)) (sym passes))
+          round_form passes)
+          (answer_seen (open_answer f weight) (λ y h. no_such_flow _ h) asked (cell_seen at index_in_reach) (Ok tt) passes))
+
+      pub open_refused_gives : (x : FlowCell) (k : Refusal) → open_in_place x (Err k) ≡ opened_parts (flow_in c.cells at) f weight
+          → OpenGives c f weight (left_by c.cells c.round (Err k))
+      unfolding opened_parts opened answered_as unless_refused
+      open_refused_gives x k g =
+          let refuses : Err k ≡ open_answer f weight asked = ap (λ (k : OpenInPlace). k.answer) g in
+          opened_outcome
+          (ap₂ (λ (t : State) (a : Answer). record { state = t; reply = a })
+          (refused_state (open_answer f weight) (λ y h. no_such_flow _ h) asked (cell_seen at index_in_reach) k _ refuses)
+          (answer_seen (open_answer f weight) (λ y h. no_such_flow _ h) asked (cell_seen at index_in_reach) (Err k) refuses))
 
     room_in_line : f < flow_limit → (flow_in c.cells at).waiting ≡ 0 → c.round.length < flow_limit
     unfolding view view_round
@@ -395,37 +401,67 @@ module _ (c : State) (S : Sound c) where
         × (FlowReady (flow_in c.cells at) × (f < flow_limit → (flow_in c.cells at).waiting ≡ 0 → c.round.length < flow_limit))
     may_offer_to = (round_of_sound, (cell_ready at index_in_reach, room_in_line))
 
-    pub offered_gives : (size : ℕ) (o : Offered) (line : List ℕ) → offer_in_place line c.round o ≡ offered_parts (round_of c) (flow_in c.cells at) f size
-        → OfferGives c f size (record { state = state_with (with_flow (take line_start c.cells ++ line) at o.flow) (with_length c.round o.length); answer = o.answer; into = o.into })
-    unfolding offered_parts view view_round offered answered_as offered_as encode_flow view_flow
-    offered_gives size o line g =
-        record {
-          outcome = λ i. record { state = (outcome_here i).state; answer = (outcome_here i).answer; into = place_here i };
-          sound = subst (λ (r : Answered). Sound r.state) (sym outcome_here) (sound_of (offered (view c) f size).state (offered_keeps (view c) f size S.rules));
-        }
-      where
-        x : Flow
-        x = view_flow (flow_in c.cells at)
+    module _ (size : ℕ) (then : RoundCell) (x : FlowCell) (line : List ℕ) where
+      offered_outcome : {r : Outcome State (Result Place Refusal)} → r ≡ offered_as (view c) f size → OfferGives c f size r
+      unfolding offered_as
+      offered_outcome e =
+          record {
+            outcome = e;
+            sound = subst (λ (r : Outcome State (Result Place Refusal)). Sound r.state) (sym e) (sound_of (offered (view c) f size).state (offered_keeps (view c) f size S.rules));
+          }
 
-        weight_kept : o.flow.weight ≡ (flow_in c.cells at).weight
-        weight_kept =
-            ap (λ (k : OfferInPlace). k.flow.weight) g
-            ∙ chosen_has (λ (y : Flow). y.weight ≡ x.weight) (offer_refusal f size x) (packet_joined x size) x (λ z. joined_weight x size) refl
+      pub offered_gives : (place : Place) → offer_in_place line then x (Ok place) ≡ offered_parts (round_of c) (flow_in c.cells at) f size
+          → OfferGives c f size (left_by (with_flow (take line_start c.cells ++ line) at x) then (Ok place))
+      unfolding offered_parts view view_round offered offered_as encode_flow view_flow
+      offered_gives place g =
+          offered_outcome
+          (ap₂ (λ (t : State) (p : Result Place Refusal). record { state = t; reply = p })
+          (passed_state (offer_answer f size) (λ y h. no_such_flow _ h) asked (cell_seen at index_in_reach) (λ y. packet_joined y size) (λ y. flow_lined (view c).round f y)
+          (with_flow (take line_start c.cells ++ line) at x) x line then (stored_behind at index_in_reach x line weight_kept)
+          (ap (λ (k : OfferInPlace). k.flow) g ∙ ap (λ (a : Answer). encode_flow (if_ok a (packet_joined asked size) asked)) (sym passes))
+          (ap (λ (k : OfferInPlace). k.round) g ∙ ap (λ (a : Answer). encode_round (if_ok a (flow_lined (view c).round f asked) (view c).round)) (sym passes))
+          passes)
+          place_here)
+        where
+          passes : Ok tt ≡ offer_answer f size asked
+          passes = passed_with (end_place f asked size) (offer_answer f size asked) (ap (λ (k : OfferInPlace). k.reply) g)
 
-        outcome_here : record { state = state_with (with_flow (take line_start c.cells ++ line) at o.flow) (with_length c.round o.length); answer = o.answer }
-            ≡ answered_as (offered (view c) f size)
-        outcome_here =
-            asked_outcome (offer_refusal f size) (λ y h. no_such_flow _ h) (λ y. packet_joined y size) (λ y. flow_lined (view c).round f y)
-            (with_flow (take line_start c.cells ++ line) at o.flow) o.flow line (with_length c.round o.length) o.answer x (cell_seen at index_in_reach)
-            (stored_behind at index_in_reach o.flow line weight_kept)
-            (ap (λ (k : OfferInPlace). k.flow) g) (ap (λ (k : OfferInPlace). k.round) g) (ap (λ (k : OfferInPlace). k.answer) g)
+          weight_kept : x.weight ≡ (flow_in c.cells at).weight
+          weight_kept =
+              ap (λ (k : OfferInPlace). k.flow.weight) g
+              ∙ ok_has (λ (y : Flow). y.weight ≡ asked.weight) (offer_answer f size asked) (packet_joined asked size) asked (λ z. joined_weight asked size) refl
 
-        place_here : o.into ≡ joining_place (view c) f size
-        place_here =
-            ap (λ (k : OfferInPlace). k.into) g
-            ∙ ap (λ (y : Flow). offered_place f y size) (cell_seen at index_in_reach)
-            ∙ same_choice (offer_refusal f size) (λ y h. no_such_flow _ h) (λ y. packet_joined y size) (λ y. flow_lined (view c).round f y)
-            (λ y. end_place f y size) nowhere
+          place_here : ◌≡◌ {A = Result Place Refusal} (Ok place) (joining_place (view c) f size)
+          place_here =
+              ap (λ (k : OfferInPlace). k.reply) g
+              ∙ ap (λ (y : Flow). offered_place f y size) (cell_seen at index_in_reach)
+              ∙ ap (λ (k : ℕ). offered_place f (flow_at (view c) k) size)
+              (index_passed (offer_answer f size) (λ y h. no_such_flow _ h) (passes ∙ ap (offer_answer f size) (cell_seen at index_in_reach)))
+              ∙ ap (λ (k : ℕ). ok_with (offer_answer f size (flow_at (view c) f)) (end_place k (flow_at (view c) f) size)) refl
+
+      pub offer_refused_gives : (k : Refusal) → offer_in_place line then x (Err k) ≡ offered_parts (round_of c) (flow_in c.cells at) f size
+          → OfferGives c f size (left_by (take line_start c.cells ++ line) then (Err k))
+      unfolding offered_parts view view_round offered offered_as unless_refused
+      offer_refused_gives k g =
+          offered_outcome
+          (ap₂ (λ (t : State) (p : Result Place Refusal). record { state = t; reply = p })
+          (same_state ∙ refused_state (offer_answer f size) (λ y h. no_such_flow _ h) asked (cell_seen at index_in_reach) k _ refuses)
+          (ap (λ (a : Answer). ok_with a (end_place f (flow_at (view c) f) size))
+          (answer_seen (offer_answer f size) (λ y h. no_such_flow _ h) asked (cell_seen at index_in_reach) (Err k) refuses)))
+        where
+          refuses : Err k ≡ offer_answer f size asked
+          refuses = refused_with (end_place f asked size) (offer_answer f size asked) k (ap (λ (q : OfferInPlace). q.reply) g)
+
+          same_round : in_place line then ≡ round_of c
+          same_round =
+              ap (λ (q : OfferInPlace). q.round) g
+              ∙ ap (λ (a : Answer). encode_round (if_ok a (flow_lined (view c).round f asked) (view c).round)) (sym refuses)
+              ∙ sym round_form
+
+          same_state : state_with (take line_start c.cells ++ line) then ≡ c
+          same_state =
+              ap (λ (q : RoundInPlace). state_with (take line_start c.cells ++ q.line) (numbers_of q)) same_round
+              ∙ ap (λ (l : List ℕ). state_with l c.round) (take-append-drop line_start c.cells)
 
 pub new_gives : NewGives (encode new_scheduler)
 new_gives = record { outcome = refl; sound = sound_of new_scheduler new_keeps }

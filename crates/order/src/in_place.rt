@@ -1,96 +1,66 @@
-// The calls on packet sizes, in place: the bytes of a state are lent, and its round goes by value. What a call does is said here, once; a method with self
-// lends the bytes of its own state, and a caller in another language lends the bytes of an image.
+// The calls on packet sizes, in place: the bytes of a state and its round are lent. What a call does is said here, once; a method with self lends the parts
+// of its own state, and a caller in another language lends those of an image.
 ghost use Rattle.order.specs.Encoding.{state_with, Sound};
-ghost use Rattle.order.specs.Promised.{OpenGives, OfferGives, DepartGives, BurstGives, opened_in, placed_in, departed_in, counted_in};
+ghost use Rattle.order.specs.Promised.{OpenGives, OfferGives, DepartGives, BurstGives, left_by};
 
-use crate::{LentBurst, LentDeparture, LentOffer};
+use crate::Departed;
 use layout::LINE_START;
-use model::{Answer, Count, LIST_SHORT, Reply};
-use steps::{RoundCell, ask, flow};
+use model::{Refusal, Reply};
+use steps::{Place, RoundCell, ask};
 
-pub fn open(cells: &mut [u8], r: RoundCell, f: usize, weight: usize) -> Answer
+pub fn open(cells: &mut [u8], r: RoundCell, f: usize, weight: usize) -> Result<(), Refusal>
     requires { Sound (state_with cells.old r) }
-    ensures { OpenGives (state_with cells.old r) f weight (opened_in cells.new r result) }
+    ensures { OpenGives (state_with cells.old r) f weight (left_by cells.new r result) }
 {
     let at = ask::index(f);
-    let step = ask::opened(layout::flow_at(cells, at), f, weight);
-    let flow = step.flow;
+    let mut flow = layout::flow_at(cells, at);
+    ask::open(&mut flow, f, weight)?;
     layout::put_opened(cells, at, flow);
-    step.answer
+    Ok(())
 }
 
-pub fn offer(cells: &mut [u8], r: RoundCell, f: usize, size: usize) -> LentOffer
-    requires { Sound (state_with cells.old r) }
-    ensures { OfferGives (state_with cells.old r) f size (placed_in cells.new r result) }
+// Tells where the packet lies that is accepted.
+pub fn offer(cells: &mut [u8], r: &mut RoundCell, f: usize, size: usize) -> Result<Place, Refusal>
+    requires { Sound (state_with cells.old r.old) }
+    ensures { OfferGives (state_with cells.old r.old) f size (left_by cells.new r.new result) }
 {
     let at = ask::index(f);
-    let flow = layout::flow_at(cells, at);
-    let step = ask::offered(&mut cells[LINE_START..], r, flow, f, size);
-    let queue = step.flow;
-    layout::put_flow(cells, at, queue);
-    let answer = step.answer;
-    let into = step.into;
-    LentOffer {
-        length: step.length,
-        answer: answer,
-        into: into,
-    }
+    let mut flow = layout::flow_at(cells, at);
+    let place = ask::offer(&mut cells[LINE_START..], r, &mut flow, f, size)?;
+    layout::put_flow(cells, at, flow);
+    Ok(place)
 }
 
-pub fn depart(cells: &mut [u8], r: RoundCell) -> LentDeparture
-    requires { Sound (state_with cells.old r) }
-    ensures { DepartGives (state_with cells.old r) (departed_in cells.new result) }
+pub fn depart(cells: &mut [u8], r: &mut RoundCell) -> Departed
+    requires { Sound (state_with cells.old r.old) }
+    ensures { DepartGives (state_with cells.old r.old) (left_by cells.new r.new result) }
 {
-    let at = turns::whose(cells[LINE_START], r);
-    let flow = layout::flow_at(cells, at);
-    let step = turns::visit(&mut cells[LINE_START..], r, flow);
-    let rest = step.flow;
-    layout::put_flow(cells, at, rest);
-    let from = flow::first_place(at, flow);
-    let round = step.round;
-    let reply = step.reply;
-    LentDeparture {
-        round: round,
-        reply: reply,
-        from: from,
-    }
+    let at = turns::whose(cells[LINE_START], *r);
+    let mut flow = layout::flow_at(cells, at);
+    let from = flow.first_place(at);
+    let reply = turns::visit(&mut cells[LINE_START..], r, &mut flow);
+    layout::put_flow(cells, at, flow);
+    Departed { reply, from }
 }
 
-// Up to n departures, whose flow numbers go into the list from its start. It asks no place of them, and so does not call depart.
-pub fn burst(cells: &mut [u8], r: RoundCell, n: usize, list: &mut [u8]) -> LentBurst
-    requires { Sound (state_with cells.old r) }
-    ensures { BurstGives (state_with cells.old r) n list.old list.new (counted_in cells.new result) }
+// Up to n departures, whose flow numbers go into the list from its start; tells how many there were.
+pub fn burst(
+    cells: &mut [u8],
+    r: &mut RoundCell,
+    n: usize,
+    list: &mut [u8],
+) -> Result<usize, Refusal>
+    requires { Sound (state_with cells.old r.old) }
+    ensures { BurstGives (state_with cells.old r.old) n list.old list.new (left_by cells.new r.new result) }
 {
     if list.len() < n {
-        return LentBurst {
-            round: r,
-            count: Count::Refused(LIST_SHORT),
-        };
+        return Err(Refusal::ListShort);
     }
-    let mut round = r;
-    let mut made = 0;
-    while made < n {
-        let at = turns::whose(cells[LINE_START], round);
-        let flow = layout::flow_at(cells, at);
-        let step = turns::visit(&mut cells[LINE_START..], round, flow);
-        let rest = step.flow;
-        layout::put_flow(cells, at, rest);
-        let after = step.round;
-        round = after;
-        let reply = step.reply;
-        let Reply::Departure(sent) = reply else {
-            let fewer = Count::Made(made);
-            return LentBurst {
-                round: round,
-                count: fewer,
-            };
+    for made in 0..n {
+        let Reply::Departure(sent) = depart(cells, r).reply else {
+            return Ok(made);
         };
         list[made] = sent.flow;
-        made += 1;
     }
-    let all = Count::Made(made);
-    LentBurst {
-        round: round,
-        count: all,
-    }
+    Ok(n)
 }

@@ -1,32 +1,44 @@
 -- The line is lent, and one flow is stored once it is back.
 use native.Mathlib.Omega.{arith}
+use Rattle.std.proofs.lemmas.Result.{err_from_is_err_and}
 use Rattle.order.specs.Encoding.{state_with}
-use Rattle.order.proofs.StateLaws.{bytes_count, index_in_reach}
-use Rattle.order.proofs.LentLaws.{lent_may_offer, lent_may_put_offered, lent_offered_gives}
+use Rattle.order.proofs.StateLaws.{bytes_count}
+use Rattle.order.proofs.LentLaws.{lent_may_offer, lent_may_put_offered, lent_offered_gives, lent_offer_refused_gives}
 use Rattle.order.proofs.in_place.offer.Goals as goal
 
-pub flow_at-flow-requires : goal.flow_at-flow-requires
-flow_at-flow-requires c = let state = state_with c.args.cells.now c.args.r in
-    record { cells_len = bytes_count state c.requires; f_lt_flow_limit = index_in_reach state c.requires c.args.f c.index-at.result c.index-at.ensures }
+pub flow_at-flow-requires-clause-cells_len : goal.flow_at-flow-requires-clause-cells_len
+flow_at-flow-requires-clause-cells_len c = bytes_count (state_with c.args.cells.now c.args.r.now) c.requires
 
-pub slice_bounds-offered-count : goal.slice_bounds-offered-count
-slice_bounds-offered-count c =
-    omega (arith, bytes_count (state_with c.args.cells.now c.args.r) c.requires)
+pub slice_bounds-offer-count : goal.slice_bounds-offer-count
+slice_bounds-offer-count c = omega (arith, bytes_count (state_with c.args.cells.now c.args.r.now) c.requires)
 
-pub slice_bounds-offered-start : goal.slice_bounds-offered-start
-slice_bounds-offered-start c =
-    omega (arith, bytes_count (state_with c.args.cells.now c.args.r) c.requires)
+pub slice_bounds-offer-start : goal.slice_bounds-offer-start
+slice_bounds-offer-start c = omega (arith, bytes_count (state_with c.args.cells.now c.args.r.now) c.requires)
 
-pub offered-step-requires : goal.offered-step-requires
-offered-step-requires c = let all = lent_may_offer (state_with c.args.cells.now c.args.r) c.requires c.args.f c.index-at.result c.index-at.ensures
-    c.flow_at-flow.result c.flow_at-flow.ensures in record { round_ready = all.0; flow_ready = all.1.0; length_lt_flow_limit = all.1.1 }
+pub offer-requires-clause-round_ready : goal.offer-requires-clause-round_ready
+offer-requires-clause-round_ready c = (lent_may_offer (state_with c.args.cells.now c.args.r.now) c.requires c.args.f c.index-at.result c.index-at.ensures c.flow_at-flow.result c.flow_at-flow.ensures).0
 
-pub put_flow-requires : goal.put_flow-requires
-put_flow-requires c = let all = lent_may_put_offered (state_with c.args.cells.now c.args.r) c.requires c.args.f c.index-at.result c.index-at.ensures
-    c.flow_at-flow.result c.flow_at-flow.ensures c.args.size c.offered-step.result c.offered-step.new.line c.offered-step.ensures c.cells-1.given.0 in record { cells_len = all.0; f_lt_flow_limit = all.1.0; surplus_lt_byte_limit = all.1.1 }
+pub offer-requires-clause-flow_ready : goal.offer-requires-clause-flow_ready
+offer-requires-clause-flow_ready c = (lent_may_offer (state_with c.args.cells.now c.args.r.now) c.requires c.args.f c.index-at.result c.index-at.ensures c.flow_at-flow.result c.flow_at-flow.ensures).1.0
+
+pub offer-requires-clause-line_has_room : goal.offer-requires-clause-line_has_room
+offer-requires-clause-line_has_room c = (lent_may_offer (state_with c.args.cells.now c.args.r.now) c.requires c.args.f c.index-at.result c.index-at.ensures c.flow_at-flow.result c.flow_at-flow.ensures).1.1
+
+pub returns-in_err-place : goal.returns-in_err-place
+returns-in_err-place c =
+    let p = err_from_is_err_and c.from_residual.result c.from_residual.ensures.1 in
+    rw (p.1, p.2)
+    (lent_offer_refused_gives (state_with c.args.cells.now c.args.r.now) c.requires c.args.f c.index-at.result c.index-at.ensures c.flow_at-flow.result c.flow_at-flow.ensures c.args.size c.offer.new.r c.offer.new.x c.offer.new.line c.in_err-place.field-0.0 (rw (← c.in_err-place.was) c.offer.ensures))
+
+pub put_flow-requires-clause-cells_len : goal.put_flow-requires-clause-cells_len
+put_flow-requires-clause-cells_len c =
+    (lent_may_put_offered (state_with c.args.cells.now c.args.r.now) c.requires c.args.f c.index-at.result c.index-at.ensures c.flow_at-flow.result c.flow_at-flow.ensures c.args.size c.offer.new.r c.offer.new.x c.offer.new.line c.offer.result c.offer.ensures c.offer.auto.line).0
+
+pub put_flow-requires-clause-surplus_lt_byte_limit : goal.put_flow-requires-clause-surplus_lt_byte_limit
+put_flow-requires-clause-surplus_lt_byte_limit c =
+    (lent_may_put_offered (state_with c.args.cells.now c.args.r.now) c.requires c.args.f c.index-at.result c.index-at.ensures c.flow_at-flow.result c.flow_at-flow.ensures c.args.size c.offer.new.r c.offer.new.x c.offer.new.line c.offer.result c.offer.ensures c.offer.auto.line).1.1
 
 pub returns : goal.returns
 returns c =
     rw c.put_flow.ensures
-    (lent_offered_gives (state_with c.args.cells.now c.args.r) c.requires c.args.f c.index-at.result c.index-at.ensures
-    c.flow_at-flow.result c.flow_at-flow.ensures c.args.size c.offered-step.result c.offered-step.new.line c.offered-step.ensures)
+    (lent_offered_gives (state_with c.args.cells.now c.args.r.now) c.requires c.args.f c.index-at.result c.index-at.ensures c.flow_at-flow.result c.flow_at-flow.ensures c.args.size c.offer.new.r c.offer.new.x c.offer.new.line c.in_ok-place.place (rw (← c.in_ok-place.was) c.offer.ensures))

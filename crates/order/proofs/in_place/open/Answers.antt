@@ -1,24 +1,30 @@
 -- One flow is stored with its weight, and the round stays as it was.
+use Rattle.std.proofs.lemmas.Result.{err_from_is_err_and}
 use Rattle.order.specs.Encoding.{state_with}
-use Rattle.order.proofs.StateLaws.{bytes_count, index_in_reach}
-use Rattle.order.proofs.LentLaws.{lent_ready, may_put_opened, lent_opened_gives}
+use Rattle.order.proofs.StateLaws.{bytes_count}
+use Rattle.order.proofs.LentLaws.{lent_ready, may_put_opened, lent_opened_gives, lent_open_refused_gives}
 use Rattle.order.proofs.in_place.open.Goals as goal
 
-pub flow_at-requires : goal.flow_at-requires
-flow_at-requires c = let state = state_with c.args.cells.now c.args.r in
-    record { cells_len = bytes_count state c.requires; f_lt_flow_limit = index_in_reach state c.requires c.args.f c.index-at.result c.index-at.ensures }
+pub flow_at-flow-requires-clause-cells_len : goal.flow_at-flow-requires-clause-cells_len
+flow_at-flow-requires-clause-cells_len c = bytes_count (state_with c.args.cells.now c.args.r) c.requires
 
-pub opened-step-requires : goal.opened-step-requires
-opened-step-requires c =
-    lent_ready (state_with c.args.cells.now c.args.r) c.requires c.args.f c.index-at.result c.index-at.ensures
-    c.flow_at.result c.flow_at.ensures
+pub open-requires : goal.open-requires
+open-requires c = lent_ready (state_with c.args.cells.now c.args.r) c.requires c.args.f c.index-at.result c.index-at.ensures c.flow_at-flow.result c.flow_at-flow.ensures
 
-pub put_opened-requires : goal.put_opened-requires
-put_opened-requires c = let all = may_put_opened (state_with c.args.cells.now c.args.r) c.requires c.args.f c.index-at.result c.index-at.ensures
-    c.flow_at.result c.flow_at.ensures c.args.weight c.opened-step.result c.opened-step.ensures in record { cells_len = all.0; f_lt_flow_limit = all.1.0; weight_lt_byte_limit = all.1.1 }
+pub returns-in_err-open : goal.returns-in_err-open
+returns-in_err-open c =
+    let p = err_from_is_err_and c.from_residual.result c.from_residual.ensures.1 in
+    rw (p.1, p.2)
+    (lent_open_refused_gives (state_with c.args.cells.now c.args.r) c.requires c.args.f c.index-at.result c.index-at.ensures c.flow_at-flow.result c.flow_at-flow.ensures c.args.weight c.open.new.x c.in_err-open.field-0.0 (rw (← c.in_err-open.was) c.open.ensures))
+
+pub put_opened-requires-clause-cells_len : goal.put_opened-requires-clause-cells_len
+put_opened-requires-clause-cells_len c = bytes_count (state_with c.args.cells.now c.args.r) c.requires
+
+pub put_opened-requires-clause-weight_lt_byte_limit : goal.put_opened-requires-clause-weight_lt_byte_limit
+put_opened-requires-clause-weight_lt_byte_limit c =
+    (may_put_opened (state_with c.args.cells.now c.args.r) c.requires c.args.f c.index-at.result c.index-at.ensures c.flow_at-flow.result c.flow_at-flow.ensures c.args.weight c.open.new.x c.open.result c.open.ensures).1.1
 
 pub returns : goal.returns
 returns c =
     rw c.put_opened.ensures
-    (lent_opened_gives (state_with c.args.cells.now c.args.r) c.requires c.args.f c.index-at.result c.index-at.ensures
-    c.flow_at.result c.flow_at.ensures c.args.weight c.opened-step.result c.opened-step.ensures)
+    (lent_opened_gives (state_with c.args.cells.now c.args.r) c.requires c.args.f c.index-at.result c.index-at.ensures c.flow_at-flow.result c.flow_at-flow.ensures c.args.weight c.open.new.x (rw (← c.in_ok-open.was) c.open.ensures))
