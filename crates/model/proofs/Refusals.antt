@@ -10,7 +10,7 @@ use Rattle.model.specs.Limits.{flow_limit, weight_limit, size_limit, queue_limit
 use Rattle.model.specs.Model.{Flow}
 use Rattle.std.specs.Prelude.{Ok, Err}
 use Rattle.model.specs.Choose.{if_ok}
-use Rattle.model.specs.Replies.{Answer, number_of}
+use Rattle.model.specs.Replies.{Answer, number_of, of_answer}
 use Rattle.model.specs.Calls.{open_answer, offer_answer}
 use Rattle.model.specs.declared.Refusal.{Refusal}
 use Rattle.model.specs.declared.Refusal.TheVariants.{NoSuchFlow, BadWeight, OpenAlready, NotOpen, BadSize, QueueFull, OutShort, StoreWrong, ListShort}
@@ -29,6 +29,11 @@ number_positive ListShort = omega arith
 -- An error is not done.
 pub not_done : (r : Refusal) → ◌≡◌ {A = Answer} (Err r) (Ok tt) → ⊥
 not_done r e = let z : ◌≡◌ {A = ℕ} 0 1 = ap {B = ℕ} (λ (a : Answer). if_ok a 1 0) e in absurd (omega arith)
+
+-- An answer that says no refusal is done.
+pub no_number : (a : Answer) → (of_answer a).refusal ≡ 0 → a ≡ Ok tt
+no_number (Ok done) e = refl
+no_number (Err r) e = absurd (omega (arith, number_positive r))
 
 -- A check that refuses nothing is passed, and so are those after it.
 passed : (b : Bool) (r : Refusal) (rest : Answer) → ◌≡◌ {A = Answer} (cond b (Err r) rest) (Ok tt) → (b ≡ false) × (rest ≡ Ok tt)

@@ -1,5 +1,5 @@
 -- Each call balances on bytes: for each flow, what waited and what the call accepts are what leaves and what waits then.
-use Prim.Native.Nat.{ℕ, zero, suc, ◌≤◌, ◌<◌}
+use Prim.Native.Nat.{ℕ, ◌≤◌, ◌<◌}
 use mathlib.Core.Path.{◌≡◌, refl, sym, ap, ap₂, ◌∙◌}
 use mathlib.Core.List.{List, [], ◌∷◌, ◌++◌, map, append-nil}
 use native.Mathlib.Omega.{arith}
@@ -9,22 +9,24 @@ use lib.Seq.{take_at}
 use Rattle.model.specs.Limits.{flow_limit, queue_limit, size_limit}
 use Rattle.model.specs.Model.{Flow, Scheduler, flow_at, new_scheduler}
 use Rattle.model.specs.Steps.{packet_joined, flow_lined, next_slot_of}
-use Rattle.model.specs.Calls.{put, open_flow, opened, open_refusal, offered, offer_refusal, departed, answer_of, unless_refused}
+use Rattle.model.specs.Calls.{put, open_flow, opened, open_answer, offered, offer_answer, departed, unless_refused}
 use Rattle.model.specs.Replies.{of_answer, sent_by, taken_by}
 use Rattle.model.specs.Rules.{Rules}
-use Rattle.model.specs.declared.Answer.{Answer}
 use Rattle.model.specs.declared.Reply.{Reply}
 use Rattle.model.specs.declared.Reply.TheVariants.{Departure, Idle, Refused}
 use Rattle.model.specs.declared.Sent.{Sent}
 use Rattle.model.proofs.Flows.{at_others, first_in_range, here_now, beyond_closed}
 use Rattle.model.proofs.Refusals.{MayOpen, may_open, MayOffer, may_offer}
 use Rattle.store.specs.Slots.{store_length, written, held}
-use Rattle.store.specs.Calls.{AfterOffer, AfterDeparture, store_offer, store_offer_refusal, store_depart, store_depart_refusal}
+use Rattle.store.specs.Calls.{AfterOffer, AfterDeparture, store_offer, store_offer_answer, store_depart, store_depart_answer}
 use Rattle.store.specs.StoreCalls.{lent, back, Packet, put_out, bytes_of, held_from, waiting_bytes}
 use Rattle.store.proofs.SlotLaws.{held_length, written_length}
-use Rattle.store.proofs.CallLaws.{offer_may, offer_state, offer_refused, offer_stores, offer_number, departs, depart_refused, depart_made, sent_departure}
+use Rattle.store.proofs.CallLaws.{offer_may, offer_state, offer_refused, offer_stores, offer_answered, departs, depart_refused, depart_made, sent_departure}
 use Rattle.model.proofs.Departing.{Leaves, departed_leaves, idle_stays, never_refused}
-use Rattle.model.proofs.Choosing.{zero_chosen, chosen_has}
+use Rattle.std.specs.Prelude.{Ok, Err}
+use Rattle.model.specs.Replies.{Answer}
+use Rattle.model.proofs.Choosing.{ok_chosen, ok_has}
+use Rattle.model.proofs.Refusals.{no_number}
 use Rattle.model.proofs.Keeps.{new_closed}
 use Rattle.model.proofs.Line.{same_or_other}
 use Rattle.store.proofs.Lending.{lent_length, lent_whole, back_whole, back_untouched}
@@ -83,7 +85,7 @@ module _ (s : Scheduler) (R : Rules s) (store : List ℕ) (f weight : ℕ) where
   unfolding opened unless_refused bytes_of
   open_balances g =
       append-nil (waiting_bytes s store g)
-      ∙ sym (chosen_has (λ t. waiting_bytes t store g ≡ waiting_bytes s store g) (open_refusal f weight (flow_at s f)) (opened_in s f weight) s
+      ∙ sym (ok_has (λ t. waiting_bytes t store g ≡ waiting_bytes s store g) (open_answer f weight (flow_at s f)) (opened_in s f weight) s
       (λ e. open_waits (may_open f weight (flow_at s f) e) g) refl)
 
 -- An accepted packet is written in the slot behind its flow's last, and joins its queue.
@@ -148,7 +150,7 @@ module _ (s : Scheduler) (R : Rules s) (store : List ℕ) (whole : length store 
   offer_made = store_offer s f packet (lent n store)
 
   -- Where it is accepted, all of the store was lent, and no more.
-  module _ (e : store_offer_refusal s f packet (lent n store) ≡ 0) where
+  module _ (e : store_offer_answer s f packet (lent n store) ≡ Ok tt) where
     all_lent : n ≡ length store
     all_lent = omega (arith, lent_length n store, (offer_may s f packet (lent n store) e).0)
 
@@ -157,7 +159,7 @@ module _ (s : Scheduler) (R : Rules s) (store : List ℕ) (whole : length store 
 
     state_joined : offer_made.state ≡ joined_in s f (length packet)
     unfolding offered unless_refused
-    state_joined = offer_state s f packet (lent n store) (offer_may s f packet (lent n store) e).0 ∙ zero_chosen (offer_refusal f (length packet) (flow_at s f)) _ s (offer_may s f packet (lent n store) e).1
+    state_joined = offer_state s f packet (lent n store) (offer_may s f packet (lent n store) e).0 ∙ ok_chosen (offer_answer f (length packet) (flow_at s f)) _ s (offer_may s f packet (lent n store) e).1
 
     store_joined : back store n offer_made.store ≡ stored_in s store f packet
     store_joined =
@@ -167,25 +169,21 @@ module _ (s : Scheduler) (R : Rules s) (store : List ℕ) (whole : length store 
 
   pub offer_balances : Balances s store (taken_by offer_made.answer (record { flow = f; bytes = packet })) [] offer_made.state (back store n offer_made.store)
   offer_balances =
-      rw (offer_number s f packet (lent n store)) (by (store_offer_refusal s f packet (lent n store)) refl)
+      rw (offer_answered s f packet (lent n store)) (by (store_offer_answer s f packet (lent n store)) refl)
     where
-      by : (m : ℕ) → store_offer_refusal s f packet (lent n store) ≡ m
-          → Balances s store (taken_by (answer_of m) (record { flow = f; bytes = packet })) [] offer_made.state (back store n offer_made.store)
-      by zero e g =
+      by : (m : Answer) → store_offer_answer s f packet (lent n store) ≡ m
+          → Balances s store (taken_by m (record { flow = f; bytes = packet })) [] offer_made.state (back store n offer_made.store)
+      by (Ok tt) e g =
           join_balances s R store whole f packet (may_join e) g
           ∙ ap (λ (l : List (List ℕ)). bytes_of g [] ++ l) (sym (ap₂ (λ (t : Scheduler) (l : List ℕ). waiting_bytes t l g) (state_joined e) (store_joined e)))
-      by (suc m) e g =
-          let kept = offer_refused s f packet (lent n store) (λ z. absurd (omega arith)) in
+      by (Err r) e g =
+          let kept = offer_refused s f packet (lent n store) r e in
           nothing_moves s offer_made.state store (back store n offer_made.store) kept.0 (ap (back store n) kept.1 ∙ back_untouched n store) g
 
   -- Where it says no refusal, the store has the packet in the flow's next slot.
   pub accepted_is_stored : (of_answer offer_made.answer).refusal ≡ 0 → back store n offer_made.store ≡ stored_in s store f packet
   accepted_is_stored none =
-      store_joined (accepted_number (store_offer_refusal s f packet (lent n store)) (sym (ap (λ (a : Answer). (of_answer a).refusal) (offer_number s f packet (lent n store))) ∙ none))
-    where
-      accepted_number : (m : ℕ) → (of_answer (answer_of m)).refusal ≡ 0 → m ≡ 0
-      accepted_number zero e = refl
-      accepted_number (suc m) e = e
+      store_joined (no_number (store_offer_answer s f packet (lent n store)) (sym (ap (λ (a : Answer). (of_answer a).refusal) (offer_answered s f packet (lent n store))) ∙ none))
 
 -- The bytes that a flow's first slot held.
 abbrev first_held : Scheduler → List ℕ → Sent → List ℕ
@@ -225,7 +223,7 @@ module _ (s : Scheduler) (R : Rules s) (store : List ℕ) (whole : length store 
   one_taken o d e = ap (λ (r : Reply). map (λ (d : Sent). record { flow = d.flow; bytes = take d.size o.out }) (sent_by r)) e
 
   -- Where a packet leaves, all of the store was lent, and the outgoing buffer begins with what the flow's first slot held.
-  module _ (z : store_depart_refusal (lent n store) out ≡ 0) (d : Sent) (e : (departed s).reply ≡ Departure d) where
+  module _ (z : store_depart_answer (lent n store) out ≡ Ok tt) (d : Sent) (e : (departed s).reply ≡ Departure d) where
     first_leaves : Leaves s d (departed s).state
     first_leaves = departed_leaves s R d e
 
@@ -261,13 +259,13 @@ module _ (s : Scheduler) (R : Rules s) (store : List ℕ) (whole : length store 
       ∙ ap (λ (l : List Packet). bytes_of g l ++ waiting_bytes depart_outcome.state store g) (sym (none_taken depart_outcome b))
 
   pub depart_balances : Balances s store [] (taken depart_outcome) depart_outcome.state store
-  depart_balances = by (store_depart_refusal (lent n store) out) refl
+  depart_balances = by (store_depart_answer (lent n store) out) refl
     where
-      reply_by : (r : Reply) → (departed s).reply ≡ r → store_depart_refusal (lent n store) out ≡ 0 → Balances s store [] (taken depart_outcome) depart_outcome.state store
+      reply_by : (r : Reply) → (departed s).reply ≡ r → store_depart_answer (lent n store) out ≡ Ok tt → Balances s store [] (taken depart_outcome) depart_outcome.state store
       reply_by (Departure d) e z = departure_balances z d e
       reply_by Idle e z = none_balances ((depart_made s (lent n store) out z).0 ∙ idle_stays s e) (ap sent_by ((depart_made s (lent n store) out z).2 ∙ e))
       reply_by (Refused k) e z = absurd (never_refused s k e)
 
-      by : (m : ℕ) → store_depart_refusal (lent n store) out ≡ m → Balances s store [] (taken depart_outcome) depart_outcome.state store
-      by zero e = reply_by (departed s).reply refl e
-      by (suc m) e = none_balances (depart_refused s (lent n store) out m e).0 (ap sent_by (depart_refused s (lent n store) out m e).2)
+      by : (m : Answer) → store_depart_answer (lent n store) out ≡ m → Balances s store [] (taken depart_outcome) depart_outcome.state store
+      by (Ok tt) e = reply_by (departed s).reply refl e
+      by (Err m) e = none_balances (depart_refused s (lent n store) out m e).0 (ap sent_by (depart_refused s (lent n store) out m e).2)

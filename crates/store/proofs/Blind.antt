@@ -5,13 +5,14 @@ use mathlib.Core.List.{List, [], ◌∷◌, map}
 use mathlib.Core.Bool.{cond}
 use lib.ListN.{length, replicate, length-replicate}
 use lib.Dec.{ltb, eqb}
-use Rattle.model.specs.Choose.{if_zero}
+use Rattle.std.specs.Prelude.{Ok, Err}
+use Rattle.model.specs.Choose.{if_ok}
 use Rattle.model.specs.Model.{Scheduler, flow_at, new_scheduler}
-use Rattle.model.specs.Calls.{offer_refusal, offered, departed, answer_of}
-use Rattle.model.specs.Replies.{Said, of_answer, of_reply}
-use Rattle.model.specs.declared.Reply.TheVariants.{Refused}
+use Rattle.model.specs.Calls.{offer_answer, offered, departed}
+use Rattle.model.specs.Replies.{Answer, Said, of_answer, of_reply}
+use Rattle.model.specs.declared.Refusal.TheVariants.{OutShort, StoreWrong}
 use Rattle.store.specs.Slots.{store_length, out_limit}
-use Rattle.store.specs.Calls.{store_offer, store_offer_refusal, store_depart, store_depart_refusal}
+use Rattle.store.specs.Calls.{store_offer, store_offer_answer, store_depart, store_depart_answer, unless_short}
 use Rattle.model.specs.Chain.{Effect, moved, next, chain, over}
 use Rattle.store.specs.StoreCalls.{StoreCall, resetting, opening, offering, departing, WithStore, with_store, lent, Packet, does, store_calls}
 use Rattle.store.proofs.Kept.{StoreHistory, start}
@@ -35,17 +36,17 @@ module _ (s : Scheduler) (a b : List ℕ) (same : length a ≡ length b) where
       → ((store_offer s f p a).state ≡ (store_offer s f q b).state) × ((store_offer s f p a).answer ≡ (store_offer s f q b).answer)
   unfolding store_offer
   offer_blind f p q sizes =
-      let number : store_offer_refusal s f p a ≡ store_offer_refusal s f q b =
-      ap₂ (λ (n m : ℕ). cond (eqb n store_length) (offer_refusal f m (flow_at s f)) 8) same sizes in
-      (ap₂ (λ (n m : ℕ). if_zero n (offered s f m).state s) number sizes, ap answer_of number)
+      let answer : store_offer_answer s f p a ≡ store_offer_answer s f q b =
+      ap₂ (λ (n m : ℕ). cond (eqb n store_length) (offer_answer f m (flow_at s f)) (Err StoreWrong)) same sizes in
+      (ap₂ (λ (r : Answer) (m : ℕ). if_ok r (offered s f m).state s) answer sizes, answer)
 
   depart_blind : (out more : List ℕ) → length out ≡ length more
       → ((store_depart s a out).state ≡ (store_depart s b more).state) × ((store_depart s a out).reply ≡ (store_depart s b more).reply)
   unfolding store_depart
   depart_blind out more sizes =
-      let number : store_depart_refusal a out ≡ store_depart_refusal b more =
-      ap₂ (λ (n m : ℕ). cond (eqb n store_length) (cond (ltb m out_limit) 7 0) 8) same sizes in
-      (ap (λ (n : ℕ). if_zero n (departed s).state s) number, ap (λ (n : ℕ). if_zero n (departed s).reply (Refused n)) number)
+      let answer : store_depart_answer a out ≡ store_depart_answer b more =
+      ap₂ (λ (n m : ℕ). cond (eqb n store_length) (cond (ltb m out_limit) (Err OutShort) (Ok tt)) (Err StoreWrong)) same sizes in
+      (ap (λ (r : Answer). if_ok r (departed s).state s) answer, ap (λ (r : Answer). unless_short r (departed s).reply) answer)
 
 module _ (s : Scheduler) (a b : List ℕ) (same : length a ≡ length b) where
   lent_same : (n : ℕ) → length (lent n a) ≡ length (lent n b)

@@ -4,7 +4,7 @@ use mathlib.Core.Path.{◌≡◌, refl, sym, ap, ap₂, ◌∙◌, subst}
 use mathlib.Core.List.{List, []}
 use Rattle.model.specs.Model.{Scheduler, new_scheduler}
 use Rattle.model.specs.Rules.{Rules}
-use Rattle.model.specs.Replies.{of_answer, of_reply, taken_by}
+use Rattle.model.specs.Replies.{Answer, of_answer, of_reply, taken_by}
 use Rattle.model.specs.Calls.{opened}
 use Rattle.model.specs.Chain.{Seen, seen_asking, seen_departing}
 use Rattle.model.proofs.Keeps.{new_keeps, opened_keeps}
@@ -15,8 +15,8 @@ use Rattle.store.specs.Promised.{scheduler_of, SoundSite, site_of, answered_as, 
 use Rattle.store.specs.StoreCalls.{StoreCall, resetting, opening, offering, departing, WithStore, lent, back, Packet, put_out, does, store_calls}
 use Rattle.store.specs.Runs.{Does, resets, opens, offers, departs}
 use Rattle.store.specs.declared.Site.{Site}
-use Rattle.store.specs.declared.SiteAnswered.{SiteAnswered}
-use Rattle.store.specs.declared.SiteDeparted.{SiteDeparted}
+use Rattle.model.specs.declared.Outcome.{Outcome}
+use Rattle.model.specs.declared.Reply.{Reply}
 use Rattle.store.proofs.CallLaws.{offer_keeps, depart_keeps}
 use Rattle.store.proofs.SiteLaws.{rules_of_site}
 
@@ -45,7 +45,7 @@ same_form S T = ap₂ (λ (k : Site) (l : List ℕ). record { keeper = k; store 
 -- ---- every call
 
 module _ {s : WithStore Site} {m : WithStore Scheduler} (S : Stands s m) where
-  offer_is : {f : ℕ} {packet after : List ℕ} {r : SiteAnswered} (n : ℕ) → OfferGives s.keeper f packet (lent n s.store) after r
+  offer_is : {f : ℕ} {packet after : List ℕ} {r : Outcome Site Answer} (n : ℕ) → OfferGives s.keeper f packet (lent n s.store) after r
       → (r ≡ answered_as (store_offer m.keeper f packet (lent n m.store)).state (store_offer m.keeper f packet (lent n m.store)).answer)
       × (after ≡ (store_offer m.keeper f packet (lent n m.store)).store)
   offer_is {f} {packet} {after} {r} n g =
@@ -53,7 +53,7 @@ module _ {s : WithStore Site} {m : WithStore Scheduler} (S : Stands s m) where
       let there = same (λ k l. store_offer k f packet (lent n l)) in
       (g.outcome ∙ ap (λ (o : AfterOffer). answered_as o.state o.answer) there, g.stored ∙ ap (λ (o : AfterOffer). o.store) there)
 
-  departure_is : {out after : List ℕ} {r : SiteDeparted} (n : ℕ) → DepartGives s.keeper (lent n s.store) out after r
+  departure_is : {out after : List ℕ} {r : Outcome Site Reply} (n : ℕ) → DepartGives s.keeper (lent n s.store) out after r
       → (r ≡ departed_as (store_depart m.keeper (lent n m.store) out).state (store_depart m.keeper (lent n m.store) out).reply)
       × (after ≡ (store_depart m.keeper (lent n m.store) out).out)
   departure_is {out} {after} {r} n g =
@@ -69,30 +69,30 @@ follows s m call t e S (opens {f} {weight} {r} g) =
     let there = g.outcome ∙ ap (λ (k : Scheduler). answered_as (opened k f weight).state (opened k f weight).reply) (stands_for S) in
     record {
       stands_then =
-          record { form = ap (λ (a : SiteAnswered). a.site) there; rules = opened_keeps m.keeper f weight S.rules; store_same = S.store_same };
-      seen_same = ap (λ (a : SiteAnswered). seen_asking (of_answer a.answer) []) there;
+          record { form = ap (λ (a : Outcome Site Answer). a.state) there; rules = opened_keeps m.keeper f weight S.rules; store_same = S.store_same };
+      seen_same = ap (λ (a : Outcome Site Answer). seen_asking (of_answer a.reply) []) there;
     }
 follows s m call t e S (offers {f} {n} {packet} {after} {r} g) =
     let there = offer_is S n g in
     record {
       stands_then =
           record {
-            form = ap (λ (a : SiteAnswered). a.site) there.0;
+            form = ap (λ (a : Outcome Site Answer). a.state) there.0;
             rules = offer_keeps m.keeper f packet (lent n m.store) S.rules;
             store_same = ap₂ (λ (l k : List ℕ). back l n k) S.store_same there.1;
           };
-      seen_same = ap (λ (a : SiteAnswered). seen_asking (of_answer a.answer) (taken_by a.answer (record { flow = f; bytes = packet }))) there.0;
+      seen_same = ap (λ (a : Outcome Site Answer). seen_asking (of_answer a.reply) (taken_by a.reply (record { flow = f; bytes = packet }))) there.0;
     }
 follows s m call t e S (departs {n} {out} {after} {r} g) =
     let there = departure_is S n g in
     record {
       stands_then =
           record {
-            form = ap (λ (a : SiteDeparted). a.site) there.0;
+            form = ap (λ (a : Outcome Site Reply). a.state) there.0;
             rules = depart_keeps m.keeper (lent n m.store) out S.rules;
             store_same = S.store_same;
           };
-      seen_same = ap₂ (λ (a : SiteDeparted) (l : List ℕ). seen_departing (of_reply a.reply) out l (put_out a.reply l)) there.0 there.1;
+      seen_same = ap₂ (λ (a : Outcome Site Reply) (l : List ℕ). seen_departing (of_reply a.reply) out l (put_out a.reply l)) there.0 there.1;
     }
 
 -- ---- every call has an outcome

@@ -1,6 +1,6 @@
 -- Lending the store: only where all of it is lent, and no more, is it the store itself that a call works on; lent and given back untouched, it is as
 -- it was.
-use Prim.Native.Nat.{ℕ, zero, suc, ◌-◌}
+use Prim.Native.Nat.{ℕ, ◌-◌}
 use mathlib.Core.Path.{◌≡◌, refl, sym, ap, ap₂, ◌∙◌}
 use mathlib.Core.List.{List, [], ◌++◌, append-nil}
 use native.Mathlib.Omega.{arith}
@@ -10,7 +10,9 @@ use lib.Seq.{take_all, take-append_seam, length-take-le}
 use Rattle.model.specs.Model.{Scheduler, flow_at}
 use Rattle.model.proofs.Refusals.{MayOffer, may_offer}
 use Rattle.model.specs.Steps.{next_slot_of}
-use Rattle.store.specs.Calls.{store_offer, store_offer_refusal}
+use Rattle.std.specs.Prelude.{Ok, Err}
+use Rattle.model.specs.Replies.{Answer}
+use Rattle.store.specs.Calls.{store_offer, store_offer_answer}
 use Rattle.store.specs.StoreCalls.{StoreCall, WithStore, resetting, opening, offering, departing, lent, back, does}
 use Rattle.store.proofs.CallLaws.{offer_may, offer_refused, offer_stores}
 use Rattle.store.proofs.SlotLaws.{written_length}
@@ -49,16 +51,16 @@ back_untouched n store =
 
 -- An offer leaves the length of the store.
 offer_length : (s : Scheduler) (f : ℕ) (packet store : List ℕ) → length (store_offer s f packet store).store ≡ length store
-offer_length s f packet store = by (store_offer_refusal s f packet store) refl
+offer_length s f packet store = by (store_offer_answer s f packet store) refl
   where
-    by : (n : ℕ) → store_offer_refusal s f packet store ≡ n → length (store_offer s f packet store).store ≡ length store
-    by zero e =
+    by : (a : Answer) → store_offer_answer s f packet store ≡ a → length (store_offer s f packet store).store ≡ length store
+    by (Ok tt) e =
         let may = offer_may s f packet store e in
         let room : MayOffer f (length packet) (flow_at s f) = may_offer f (length packet) (flow_at s f) may.1 in
         ap length (offer_stores s f packet store e)
         ∙ written_length store packet may.0 room.size_small f (next_slot_of (flow_at s f)) room.flow_in_range (omega arith)
         ∙ sym may.0
-    by (suc n) e = ap length (offer_refused s f packet store (λ z. absurd (omega arith))).1
+    by (Err r) e = ap length (offer_refused s f packet store r e).1
 
 -- Every call leaves the length of the store.
 pub store_keeps_length : (s : WithStore Scheduler) (c : StoreCall) → length (does s c).state.store ≡ length s.store

@@ -6,9 +6,12 @@ use mathlib.Core.List.{List, [], ◌∷◌, ◌++◌}
 use mathlib.Core.Bool.{Bool, true, false, cond}
 use lib.ListN.{length}
 use lib.Dec.{eqb, ltb}
-use Rattle.model.specs.Choose.{if_zero}
+use Rattle.std.specs.Prelude.{Ok, Err}
+use Rattle.model.specs.Choose.{if_ok}
 use Rattle.model.specs.Model.{Scheduler, flow_at}
-use Rattle.model.specs.Calls.{offered, departed, unless_refused, offer_refusal}
+use Rattle.model.specs.Calls.{offered, departed, unless_refused, offer_answer}
+use Rattle.model.specs.declared.Refusal.TheVariants.{OutShort, StoreWrong}
+use Rattle.model.specs.Replies.{Answer}
 use Rattle.model.specs.Chain.{moved, next, chain}
 use Rattle.model.specs.OrderCalls.{Call, order_calls}
 use Rattle.model.specs.OrderCalls as SizeCall
@@ -33,9 +36,9 @@ all_on_sizes [] = []
 all_on_sizes (c ∷ calls) = on_sizes c ++ all_on_sizes calls
 
 -- Where the order layer refuses an offer its state is as before, so it does not matter that the store layer asks first.
-offer_asked_first : (s : Scheduler) (f size : ℕ) → if_zero (offer_refusal f size (flow_at s f)) (offered s f size).state s ≡ (offered s f size).state
+offer_asked_first : (s : Scheduler) (f size : ℕ) → if_ok (offer_answer f size (flow_at s f)) (offered s f size).state s ≡ (offered s f size).state
 unfolding offered unless_refused
-offer_asked_first s f size = chosen_twice (offer_refusal f size (flow_at s f)) _ s
+offer_asked_first s f size = chosen_twice (offer_answer f size (flow_at s f)) _ s
 
 -- One call.
 pub on_sizes_once : (c : StoreCall) (store : List ℕ) (k : OrderHistory) → (does (with_store k.state store) c).state.keeper ≡ (chain order_calls k (on_sizes c)).state
@@ -43,18 +46,18 @@ unfolding does on_sizes chain next moved SizeCall.does store_offer store_depart
 on_sizes_once resetting store k = refl
 on_sizes_once (opening f weight) store k = refl
 on_sizes_once (offering f packet n) store k =
-    ap (λ (m : ℕ). if_zero (cond (eqb m store_length) (offer_refusal f (length packet) (flow_at k.state f)) 8) (offered k.state f (length packet)).state k.state) (lent_length n store)
+    ap (λ (m : ℕ). if_ok (cond {A = Answer} (eqb m store_length) (offer_answer f (length packet) (flow_at k.state f)) (Err StoreWrong)) (offered k.state f (length packet)).state k.state) (lent_length n store)
     ∙ by (eqb n store_length)
   where
-    by : (b : Bool) → if_zero (cond b (offer_refusal f (length packet) (flow_at k.state f)) 8) (offered k.state f (length packet)).state k.state
+    by : (b : Bool) → if_ok (cond {A = Answer} b (offer_answer f (length packet) (flow_at k.state f)) (Err StoreWrong)) (offered k.state f (length packet)).state k.state
         ≡ (chain order_calls k (cond b (SizeCall.offering f (length packet) ∷ []) [])).state
     by true = offer_asked_first k.state f (length packet)
     by false = refl
 on_sizes_once (departing n out) store k =
-    ap (λ (m : ℕ). if_zero (cond (eqb m store_length) (cond (ltb (length out) out_limit) 7 0) 8) (departed k.state).state k.state) (lent_length n store)
+    ap (λ (m : ℕ). if_ok (cond {A = Answer} (eqb m store_length) (cond (ltb (length out) out_limit) (Err OutShort) (Ok tt)) (Err StoreWrong)) (departed k.state).state k.state) (lent_length n store)
     ∙ by (eqb n store_length) (ltb (length out) out_limit)
   where
-    by : (b c : Bool) → if_zero (cond b (cond c 7 0) 8) (departed k.state).state k.state
+    by : (b c : Bool) → if_ok (cond {A = Answer} b (cond c (Err OutShort) (Ok tt)) (Err StoreWrong)) (departed k.state).state k.state
         ≡ (chain order_calls k (cond b (cond c [] (SizeCall.departing ∷ [])) [])).state
     by true true = refl
     by true false = refl

@@ -8,7 +8,8 @@ use Rattle.model.specs.Model.{Scheduler, new_scheduler}
 use Rattle.model.specs.Steps.{packet_joined, flow_lined}
 use Rattle.model.specs.Calls.{put, unless_refused, opened, offered}
 use Rattle.store.specs.Slots.{slot_start}
-use Rattle.store.specs.Calls.{store_offer_refusal, store_depart_refusal}
+use Rattle.store.specs.Calls.{store_offer_answer, store_depart_answer}
+use Rattle.model.specs.Replies.{of_answer}
 
 -- A flow, a packet's length and the store's, with the number; or the store's length and the outgoing buffer's, with the number, 0 where nothing refuses; or
 -- a flow and a slot, with the byte at which it begins.
@@ -37,8 +38,8 @@ rows =
     ∷ []
 
 unfoldable pub recomputed : Row → Row
-recomputed (offer f size length number) = offer f size length (store_offer_refusal full f (zeros size) (zeros length))
-recomputed (departure length room number) = departure length room (store_depart_refusal (zeros length) (zeros room))
+recomputed (offer f size length number) = offer f size length (of_answer (store_offer_answer full f (zeros size) (zeros length))).refusal
+recomputed (departure length room number) = departure length room (of_answer (store_depart_answer (zeros length) (zeros room))).refusal
 recomputed (slot f k byte) = slot f k (slot_start f k)
 
 pub store_rows : map recomputed rows ≡ rows

@@ -1,39 +1,40 @@
 -- From what the order layer's calls give to what a site's calls promise.
-use Prim.Native.Nat.{ℕ, zero, suc, ◌≤◌, ◌<◌}
+use Prim.Native.Nat.{ℕ, ◌≤◌, ◌<◌}
 use mathlib.Core.Path.{◌≡◌, refl, sym, ap, ap₂, ◌∙◌, subst}
 use mathlib.Core.List.{List, ◌++◌}
 use mathlib.Core.Bool.{Bool, true, false, cond}
-use lib.Dec.{eqb, ltb}
-use borrow.Author.Tests.{eqb-true, eqb-false, ltb-false}
+use lib.Dec.{eqb}
+use borrow.Author.Tests.{eqb-true, eqb-false}
 use native.Mathlib.Omega.{arith}
-use lib.ListN.{length, get_or, take, drop}
-use lib.Seq.{take_all, length-take-le}
+use lib.ListN.{length, get_or, drop}
 use Rattle.model.specs.Limits.{flow_limit, queue_limit, size_limit}
 use Rattle.model.specs.Model.{Scheduler, flow_at}
-use Rattle.model.specs.Choose.{if_zero}
+use Rattle.std.specs.Prelude.{Result, Ok, Err}
+use Rattle.model.specs.Choose.{if_ok, ok_with}
+use Rattle.model.specs.Replies.{Answer}
 use Rattle.model.specs.Steps.{next_slot_of, whose}
-use Rattle.model.specs.Calls.{offer_refusal, departed, answer_of}
+use Rattle.model.specs.Calls.{offer_answer, offered, unless_refused, departed}
 use Rattle.model.specs.Rules.{Rules}
-use Rattle.model.specs.declared.Answer.TheVariants.{Refused as AnswerRefused}
+use Rattle.model.specs.declared.Outcome.{Outcome}
+use Rattle.model.specs.declared.Refusal.{Refusal}
+use Rattle.model.specs.declared.Refusal.TheVariants.{StoreWrong}
 use Rattle.model.specs.declared.Reply.{Reply}
 use Rattle.model.specs.declared.Reply.TheVariants.{Refused}
 use Rattle.model.proofs.Departing.{Leaves, departed_leaves, SendsOrStays, sends, stays, sends_or_stays}
 use Rattle.model.proofs.Flows.{first_small}
-use Rattle.model.proofs.Refusals.{MayOffer, may_offer}
+use Rattle.model.proofs.Refusals.{MayOffer, may_offer, not_done}
 use Rattle.model.proofs.Standing.{nobody_waits, whose_in_reach}
-use Rattle.steps.specs.Places.{end_place, nowhere, first_place, leaving_place}
+use Rattle.steps.specs.Places.{end_place, first_place, leaving_place}
 use Rattle.order.specs.Promised as order
-use Rattle.order.specs.declared.Answered.{Answered}
 use Rattle.order.specs.declared.Departed.{Departed}
 use Rattle.steps.specs.declared.Place.{Place}
-use Rattle.order.specs.declared.Placed.{Placed}
 use Rattle.order.specs.declared.State.{State}
 use Rattle.store.specs.Slots.{store_length, out_limit, written, held}
-use Rattle.store.specs.Calls.{store_offer, store_offer_refusal, store_depart, store_depart_refusal, sent_out}
+use Rattle.store.specs.Calls.{store_offer, store_offer_answer, store_depart, store_depart_answer, sent_out}
 use Rattle.store.specs.Promised.{scheduler_of, SoundSite, site_of, answered_as, departed_as, NewGives, OpenGives, OfferGives, DepartGives}
 use Rattle.store.specs.declared.Site.{Site}
-use Rattle.store.proofs.SlotLaws.{held_nothing, written_nothing}
-use Rattle.store.proofs.CallLaws.{offer_wrong_store, offer_state, offer_answer, offer_refused, offer_writes, offer_number, depart_may, depart_refused, depart_made, sent_departure}
+use Rattle.store.proofs.SlotLaws.{held_nothing}
+use Rattle.store.proofs.CallLaws.{offer_wrong_store, offer_state, offer_reply, offer_refused, offer_writes, offer_answered, depart_may, depart_refused, depart_made, sent_departure}
 
 -- A place is one of the store's.
 abbrev pub InStore : Place → Type 0
@@ -65,12 +66,12 @@ pub new_law : (o : State) → order.NewGives o → NewGives (record { order = o 
 unfolding site_of
 new_law o g = record { outcome = ap (λ (k : State). record { order = k }) g.outcome; sound = g.sound }
 
-pub open_law : (site : Site) (f weight : ℕ) (a : Answered) → order.OpenGives site.order f weight a
-    → OpenGives site f weight (record { site = record { order = a.state }; answer = a.answer })
+pub open_law : (site : Site) (f weight : ℕ) (a : Outcome State Answer) → order.OpenGives site.order f weight a
+    → OpenGives site f weight (record { state = record { order = a.state }; reply = a.reply })
 unfolding answered_as site_of scheduler_of order.answered_as
 open_law site f weight a g =
     record {
-      outcome = ap (λ (k : Answered). record { site = record { order = k.state }; answer = k.answer }) g.outcome;
+      outcome = ap (λ (k : Outcome State Answer). record { state = record { order = k.state }; reply = k.reply }) g.outcome;
       sound = g.sound;
     }
 
@@ -89,129 +90,141 @@ module _ (site : Site) (S : SoundSite site) where
 
   module _ (f : ℕ) (packet store : List ℕ) where
     -- What the lengths lent refuse is refused; what they do not, leaves the store its length.
-    module _ (n : ℕ) (e : n ≡ cond (eqb (length store) store_length) 0 8) where
-      pub offer_lengths_right : n ≡ 0 → length store ≡ store_length
+    module _ (a : Answer) (e : a ≡ cond (eqb (length store) store_length) (Ok tt) (Err StoreWrong)) where
+      pub offer_lengths_right : a ≡ Ok tt → length store ≡ store_length
       offer_lengths_right z = by (eqb (length store) store_length) refl
         where
           by : (b : Bool) → eqb (length store) store_length ≡ b → length store ≡ store_length
           by true t = eqb-true (length store) store_length t
-          by false t = absurd (omega (arith, e ∙ ap (λ (k : Bool). cond {A = ℕ} k 0 8) t))
+          by false t = absurd (not_done StoreWrong (sym (e ∙ ap {B = Answer} (λ (k : Bool). cond k (Ok tt) (Err StoreWrong)) t) ∙ z))
 
-      pub refused_offer : (n ≡ 0 → ⊥) → OfferGives site f packet store store (record { site = site; answer = AnswerRefused n })
+      pub refused_offer : (r : Refusal) → a ≡ Err r → OfferGives site f packet store store (record { state = site; reply = Err r })
       unfolding answered_as
-      refused_offer d = by (eqb (length store) store_length) refl
+      refused_offer r z = by (eqb (length store) store_length) refl
         where
-          by : (b : Bool) → eqb (length store) store_length ≡ b → OfferGives site f packet store store (record { site = site; answer = AnswerRefused n })
-          by true t = absurd (d (e ∙ ap (λ (k : Bool). cond {A = ℕ} k 0 8) t))
+          by : (b : Bool) → eqb (length store) store_length ≡ b → OfferGives site f packet store store (record { state = site; reply = Err r })
+          by true t = absurd (not_done r (sym z ∙ e ∙ ap {B = Answer} (λ (k : Bool). cond k (Ok tt) (Err StoreWrong)) t))
           by false t =
-              let eight : store_offer_refusal s f packet store ≡ 8 = offer_wrong_store s f packet store (eqb-false (length store) store_length t) in
-              let kept = offer_refused s f packet store (λ z. absurd (omega arith)) in
+              let wrong : store_offer_answer s f packet store ≡ Err StoreWrong = offer_wrong_store s f packet store (eqb-false (length store) store_length t) in
+              let kept = offer_refused s f packet store StoreWrong wrong in
               record {
                 outcome =
-                    ap₂ (λ (k : Site) (m : ℕ). record { site = k; answer = AnswerRefused m }) site_form (e ∙ ap (λ (k : Bool). cond {A = ℕ} k 0 8) t)
-                    ∙ sym (ap₂ answered_as kept.0 (offer_number s f packet store ∙ ap answer_of eight));
+                    ap₂ (λ (k : Site) (m : Answer). record { state = k; reply = m }) site_form (sym z ∙ e ∙ ap {B = Answer} (λ (k : Bool). cond k (Ok tt) (Err StoreWrong)) t)
+                    ∙ sym (ap₂ answered_as kept.0 (offer_answered s f packet store ∙ wrong));
                 stored = sym kept.1;
                 sound = S;
               }
 
-    -- The order layer's number decides, and with it where the packet lies.
-    abbrev number : ℕ
-    number = offer_refusal f (length packet) (flow_at s f)
+    -- The order layer's answer decides, and with it where the packet lies.
+    abbrev answer : Answer
+    answer = offer_answer f (length packet) (flow_at s f)
 
-    abbrev place : ℕ → Place
-    place n = if_zero n (end_place f (flow_at s f) (length packet)) nowhere
+    abbrev place : Place
+    place = end_place f (flow_at s f) (length packet)
 
-    abbrev pub Fits : Place → Type 0
-    Fits p = InStore p × (p.size ≤ length packet)
-
-    place_fits : (n : ℕ) → number ≡ n → Fits (place n)
-    place_fits zero e =
+    place_fits : answer ≡ Ok tt → InStore place
+    place_fits e =
         let may : MayOffer f (length packet) (flow_at s f) = may_offer f (length packet) (flow_at s f) e in
-        ((may.flow_in_range, omega arith, may.size_small), omega arith)
-    place_fits (suc n) e = ((omega arith, omega arith, omega arith), omega arith)
+        (may.flow_in_range, omega arith, may.size_small)
 
-    written_there : (n : ℕ) → written store (place n).flow (place n).slot (take (place n).size packet)
-        ≡ if_zero n (written store f (next_slot_of (flow_at s f)) packet) store
-    written_there zero = ap (λ (l : List ℕ). written store f (next_slot_of (flow_at s f)) l) (take_all (length packet) packet (omega arith))
-    written_there (suc n) = written_nothing store 0 0
-
-    module _ (all : length store ≡ store_length) (a : Placed) (g : order.OfferGives site.order f (length packet) a) where
+    module _ (all : length store ≡ store_length) where
       -- Where the store has its length, state and answer are what the order layer gives.
-      outcome_is : record { site = record { order = a.state }; answer = a.answer }
-          ≡ answered_as (store_offer s f packet store).state (store_offer s f packet store).answer
-      unfolding answered_as site_of scheduler_of order.offered_as
-      outcome_is =
-          ap (λ (k : Placed). record { site = record { order = k.state }; answer = k.answer }) g.outcome
-          ∙ sym (ap₂ answered_as (offer_state s f packet store all) (offer_answer s f packet store all))
+      outcome_is : {a : Outcome State (Result Place Refusal)} → order.OfferGives site.order f (length packet) a → (k : Answer) → k ≡ answer
+          → record { state = record { order = a.state }; reply = k } ≡ answered_as (store_offer s f packet store).state (store_offer s f packet store).answer
+      unfolding answered_as site_of scheduler_of order.offered_as offered unless_refused
+      outcome_is g k e =
+          ap₂ (λ (t : State) (j : Answer). record { state = record { order = t }; reply = j }) (ap (λ (q : Outcome State (Result Place Refusal)). q.state) g.outcome) e
+          ∙ sym (ap₂ answered_as (offer_state s f packet store all) (offer_reply s f packet store all))
 
-      into_is : a.into ≡ place number
+      placed : {a : Outcome State (Result Place Refusal)} → order.OfferGives site.order f (length packet) a → a.reply ≡ ok_with answer place
       unfolding scheduler_of order.offered_as
-      into_is = ap (λ (k : Placed). k.into) g.outcome
+      placed g = ap (λ (q : Outcome State (Result Place Refusal)). q.reply) g.outcome
 
-      pub into_fits : Fits a.into
-      into_fits = subst Fits (sym into_is) (place_fits number refl)
+      -- Accepted: the packet is written in the slot that the flow's next packet takes.
+      module _ (a : Outcome State (Result Place Refusal)) (g : order.OfferGives site.order f (length packet) a) (p : Place) (r : a.reply ≡ Ok p) where
+        accepted : answer ≡ Ok tt
+        accepted = by answer (sym r ∙ placed g)
+          where
+            by : (a : Answer) → ◌≡◌ {A = Result Place Refusal} (Ok p) (ok_with a place) → a ≡ Ok tt
+            by (Ok tt) e = refl
+            by (Err r) e = let z : ◌≡◌ {A = ℕ} 0 1 = ap {B = ℕ} (λ (q : Result Place Refusal). if_ok q 0 1) e in absurd (omega arith)
 
-      -- As many of the packet's bytes as the place has.
-      pub bytes_there : length (take a.into.size packet) ≡ a.into.size
-      bytes_there = length-take-le a.into.size packet into_fits.1
+        place_is : p ≡ place
+        place_is = ap {B = Place} (λ (q : Result Place Refusal). or_else q) (sym r ∙ placed g ∙ ap (λ (a : Answer). ok_with a place) accepted)
+          where
+            or_else : Result Place Refusal → Place
+            or_else (Ok q) = q
+            or_else (Err r) = p
 
-      -- The packet is written in the slot that the flow's next packet takes; nothing is where it is refused.
-      pub stored_there : (after : List ℕ) → after ≡ written store a.into.flow a.into.slot (take a.into.size packet)
-          → OfferGives site f packet store after (record { site = record { order = a.state }; answer = a.answer })
-      stored_there after w =
+        pub into_fits : InStore p
+        into_fits = subst InStore (sym place_is) (place_fits accepted)
+
+        pub packet_small : length packet ≤ size_limit
+        packet_small = (may_offer f (length packet) (flow_at s f) accepted).size_small
+
+        pub stored_there : (after : List ℕ) → after ≡ written store p.flow p.slot packet
+            → OfferGives site f packet store after (record { state = record { order = a.state }; reply = Ok tt })
+        stored_there after w =
+            record {
+              outcome = outcome_is g (Ok tt) (sym accepted);
+              stored =
+                  w
+                  ∙ ap (λ (q : Place). written store q.flow q.slot packet) place_is
+                  ∙ sym (offer_writes s f packet store all ∙ ap (λ (a : Answer). if_ok a (written store f (next_slot_of (flow_at s f)) packet) store) accepted);
+              sound = g.sound;
+            }
+
+      -- Refused: nothing is written.
+      pub refused_there : (a : Outcome State (Result Place Refusal)) → order.OfferGives site.order f (length packet) a → (r : Refusal) → a.reply ≡ Err r
+          → OfferGives site f packet store store (record { state = record { order = a.state }; reply = Err r })
+      refused_there a g r e =
           record {
-            outcome = outcome_is;
-            stored =
-                w
-                ∙ ap (λ (p : Place). written store p.flow p.slot (take p.size packet)) into_is
-                ∙ written_there number
-                ∙ sym (offer_writes s f packet store all);
+            outcome = outcome_is g (Err r) (sym refused);
+            stored = sym (offer_writes s f packet store all ∙ ap (λ (a : Answer). if_ok a (written store f (next_slot_of (flow_at s f)) packet) store) refused);
             sound = g.sound;
           }
+        where
+          refused : answer ≡ Err r
+          refused = by answer (sym e ∙ placed g)
+            where
+              by : (a : Answer) → ◌≡◌ {A = Result Place Refusal} (Err r) (ok_with a place) → a ≡ Err r
+              by (Ok tt) e = let z : ◌≡◌ {A = ℕ} 0 1 = ap {B = ℕ} (λ (q : Result Place Refusal). if_ok q 1 0) e in absurd (omega arith)
+              by (Err j) e = sym (ap {B = Answer} (λ (q : Result Place Refusal). ok_with q tt) e)
 
   module _ (store out : List ℕ) where
-    pub refused_departure : (n : ℕ) → n ≡ store_depart_refusal store out → (n ≡ 0 → ⊥) → DepartGives site store out out (record { site = site; reply = Refused n })
+    pub refused_departure : (r : Refusal) → store_depart_answer store out ≡ Err r → DepartGives site store out out (record { state = site; reply = Refused r })
     unfolding departed_as
-    refused_departure zero e d = absurd (d refl)
-    refused_departure (suc n) e d =
-        let kept = depart_refused s store out n (sym e) in
+    refused_departure r e =
+        let kept = depart_refused s store out r e in
         record {
-          outcome = ap (λ (k : Site). record { site = k; reply = Refused (suc n) }) site_form ∙ sym (ap₂ departed_as kept.0 kept.2);
+          outcome = ap (λ (k : Site). record { state = k; reply = Refused r }) site_form ∙ sym (ap₂ departed_as kept.0 kept.2);
           sent = sym kept.1;
           sound = S;
         }
 
-    pub departure_lengths_right : (n : ℕ) → n ≡ store_depart_refusal store out → n ≡ 0 → (length store ≡ store_length) × (out_limit ≤ length out)
-    departure_lengths_right n e z = by (eqb (length store) store_length) (ltb (length out) out_limit) refl refl
-      where
-        by : (a b : Bool) → eqb (length store) store_length ≡ a → ltb (length out) out_limit ≡ b → (length store ≡ store_length) × (out_limit ≤ length out)
-        by true true t u = absurd (omega (arith, e ∙ ap₂ (λ (j k : Bool). cond {A = ℕ} j (cond k 7 0) 8) t u))
-        by true false t u = (eqb-true (length store) store_length t, ltb-false (length out) out_limit u)
-        by false b t u = absurd (omega (arith, e ∙ ap₂ (λ (j k : Bool). cond {A = ℕ} j (cond k 7 0) 8) t u))
-
-    module _ (all : length store ≡ store_length) (room : out_limit ≤ length out) (a : Departed) (g : order.DepartGives site.order a) where
-      may : store_depart_refusal store out ≡ 0
+    module _ (all : length store ≡ store_length) (room : out_limit ≤ length out) (a : Outcome State Departed) (g : order.DepartGives site.order a) where
+      may : store_depart_answer store out ≡ Ok tt
       may = depart_may s store out all room
 
-      from_is : a.from ≡ leaving_place s
+      from_is : a.reply.from ≡ leaving_place s
       unfolding scheduler_of order.departed_as
-      from_is = ap (λ (k : Departed). k.from) g.outcome
+      from_is = ap (λ (k : Outcome State Departed). k.reply.from) g.outcome
 
       -- Where the packet lay is a place in the store.
-      pub from_fits : InStore a.from
+      pub from_fits : InStore a.reply.from
       from_fits =
           subst InStore (sym from_is)
           (whose_in_reach s rules_of_site, (rules_of_site.flow_rules (whose s.round)).slot_in_range, first_small (rules_of_site.flow_rules (whose s.round)).sizes_in_range)
 
-      departure_outcome : record { site = record { order = a.state }; reply = a.reply }
+      departure_outcome : record { state = record { order = a.state }; reply = a.reply.reply }
           ≡ departed_as (store_depart s store out).state (store_depart s store out).reply
       unfolding departed_as site_of scheduler_of order.departed_as
       departure_outcome =
-          ap (λ (k : Departed). record { site = record { order = k.state }; reply = k.reply }) g.outcome
+          ap (λ (k : Outcome State Departed). record { state = record { order = k.state }; reply = k.reply.reply }) g.outcome
           ∙ sym (ap₂ departed_as (depart_made s store out may).0 (depart_made s store out may).2)
 
-      pub sent_from_there : (after : List ℕ) → after ≡ fetched a.from store out
-          → DepartGives site store out after (record { site = record { order = a.state }; reply = a.reply })
+      pub sent_from_there : (after : List ℕ) → after ≡ fetched a.reply.from store out
+          → DepartGives site store out after (record { state = record { order = a.state }; reply = a.reply.reply })
       sent_from_there after w =
           record {
             outcome = departure_outcome;

@@ -1,45 +1,44 @@
 -- What a refusal and an idle departure leave: scheduler, store and outgoing buffer as they were.
-use Prim.Native.Nat.{ℕ, zero, suc, ◌≤◌}
+use Prim.Native.Nat.{ℕ, ◌≤◌}
 use mathlib.Core.Path.{◌≡◌, refl, sym, ap, ap₂, ◌∙◌}
 use mathlib.Core.List.{List, [], ◌∷◌}
 use native.Mathlib.Omega.{arith}
 use lib.ListN.{length}
+use Rattle.std.specs.Prelude.{Ok, Err}
 use Rattle.model.specs.Model.{Scheduler, flow_at}
-use Rattle.model.specs.Calls.{opened, departed, open_refusal, answer_of}
-use Rattle.model.specs.Replies.{of_answer, of_reply, sent_by}
+use Rattle.model.specs.Calls.{opened, departed, open_answer}
+use Rattle.model.specs.Replies.{Answer, of_answer, of_reply, sent_by}
 use Rattle.model.specs.declared.Reply.{Reply}
 use Rattle.model.specs.declared.Reply.TheVariants.{Departure, Idle, Refused}
 use Rattle.model.proofs.Departing.{idle_stays, never_refused}
-use Rattle.model.specs.declared.Answer.TheVariants.{Refused as AnswerRefused}
-use Rattle.model.proofs.Unchanged.{unless_refused_keeps, answer_not_zero}
-use Rattle.store.specs.Calls.{store_offer, store_offer_refusal, store_depart, store_depart_refusal}
+use Rattle.model.proofs.Unchanged.{unless_refused_keeps}
+use Rattle.store.specs.Calls.{store_offer, store_offer_answer, store_depart, store_depart_answer}
 use Rattle.store.specs.StoreCalls.{StoreCall, WithStore, with_store, resetting, opening, offering, departing, lent, back, put_out, does}
-use Rattle.store.proofs.CallLaws.{offer_refused, offer_number, depart_refused, depart_made, sent_nothing}
+use Rattle.store.proofs.CallLaws.{offer_refused, offer_answered, depart_refused, depart_made, sent_nothing}
 use Rattle.store.proofs.Lending.{back_untouched}
 
 abbrev pub Unchanged : WithStore Scheduler → StoreCall → Type 0
 Unchanged s c = ((does s c).state ≡ s) × ((does s c).seen.back ≡ (does s c).seen.lent)
 
--- A refusal's number says that the offer was refused.
-refused_by : (n : ℕ) → 1 ≤ (of_answer (answer_of n)).refusal → n ≡ 0 → ⊥
-refused_by zero refused e = absurd (omega arith)
-refused_by (suc n) refused e = absurd (omega arith)
-
 offer_stays : (s : WithStore Scheduler) (f : ℕ) (packet : List ℕ) (n : ℕ)
     → 1 ≤ (of_answer (store_offer s.keeper f packet (lent n s.store)).answer).refusal
     → with_store (store_offer s.keeper f packet (lent n s.store)).state (back s.store n (store_offer s.keeper f packet (lent n s.store)).store) ≡ s
 offer_stays s f packet n refused =
-    let number : 1 ≤ (of_answer (answer_of (store_offer_refusal s.keeper f packet (lent n s.store)))).refusal =
-    rw (sym (offer_number s.keeper f packet (lent n s.store))) refused in
-    let stays = offer_refused s.keeper f packet (lent n s.store) (refused_by (store_offer_refusal s.keeper f packet (lent n s.store)) number) in
-    ap₂ (λ (k : Scheduler) (l : List ℕ). with_store k l) stays.0 (ap (back s.store n) stays.1 ∙ back_untouched n s.store)
+    by (store_offer_answer s.keeper f packet (lent n s.store)) refl (rw (sym (offer_answered s.keeper f packet (lent n s.store))) refused)
+  where
+    by : (a : Answer) → store_offer_answer s.keeper f packet (lent n s.store) ≡ a → 1 ≤ (of_answer a).refusal
+        → with_store (store_offer s.keeper f packet (lent n s.store)).state (back s.store n (store_offer s.keeper f packet (lent n s.store)).store) ≡ s
+    by (Ok done) e number = absurd (omega arith)
+    by (Err r) e number =
+        let stays = offer_refused s.keeper f packet (lent n s.store) r e in
+        ap₂ (λ (k : Scheduler) (l : List ℕ). with_store k l) stays.0 (ap (back s.store n) stays.1 ∙ back_untouched n s.store)
 
 -- A departure call with which nothing leaves.
 module _ (s : Scheduler) (store out : List ℕ) where
   unsent_stays : sent_by (store_depart s store out).reply ≡ [] → ((store_depart s store out).state ≡ s) × ((store_depart s store out).out ≡ out)
-  unsent_stays none = by (store_depart_refusal store out) refl
+  unsent_stays none = by (store_depart_answer store out) refl
     where
-      reply_by : (reply : Reply) → (departed s).reply ≡ reply → store_depart_refusal store out ≡ 0
+      reply_by : (reply : Reply) → (departed s).reply ≡ reply → store_depart_answer store out ≡ Ok tt
           → ((store_depart s store out).state ≡ s) × ((store_depart s store out).out ≡ out)
       reply_by (Departure d) e z =
           let one : d ∷ [] ≡ [] = sym (ap sent_by ((depart_made s store out z).2 ∙ e)) ∙ none in
@@ -50,9 +49,9 @@ module _ (s : Scheduler) (store out : List ℕ) where
       )
       reply_by (Refused k) e z = absurd (never_refused s k e)
 
-      by : (n : ℕ) → store_depart_refusal store out ≡ n → ((store_depart s store out).state ≡ s) × ((store_depart s store out).out ≡ out)
-      by zero z = reply_by (departed s).reply refl z
-      by (suc n) z = ((depart_refused s store out n z).0, (depart_refused s store out n z).1)
+      by : (a : Answer) → store_depart_answer store out ≡ a → ((store_depart s store out).state ≡ s) × ((store_depart s store out).out ≡ out)
+      by (Ok tt) z = reply_by (departed s).reply refl z
+      by (Err n) z = ((depart_refused s store out n z).0, (depart_refused s store out n z).1)
 
 refused_sends_none : (reply : Reply) → 1 ≤ (of_reply reply).refusal → sent_by reply ≡ []
 refused_sends_none (Departure d) refused = absurd (omega arith)
@@ -76,7 +75,7 @@ pub refused_unchanged : (s : WithStore Scheduler) (c : StoreCall) → 1 ≤ (doe
 unfolding does opened
 refused_unchanged s resetting refused = absurd (omega arith)
 refused_unchanged s (opening f weight) refused =
-    (ap (λ (k : Scheduler). with_store k s.store) (unless_refused_keeps (open_refusal f weight (flow_at s.keeper f)) s.keeper _ refused), refl)
+    (ap (λ (k : Scheduler). with_store k s.store) (unless_refused_keeps (open_answer f weight (flow_at s.keeper f)) s.keeper _ refused), refl)
 refused_unchanged s (offering f packet n) refused = (offer_stays s f packet n refused, refl)
 refused_unchanged s (departing n out) refused =
     departure_stays s n out (refused_sends_none (store_depart s.keeper (lent n s.store) out).reply refused)
@@ -86,14 +85,3 @@ pub unsent_departure_unchanged : (s : WithStore Scheduler) (n : ℕ) (out : List
 unfolding does
 unsent_departure_unchanged s n out none =
     departure_stays s n out (none_put_out (store_depart s.keeper (lent n s.store) out).reply (store_depart s.keeper (lent n s.store) out).out none)
-
--- A refusal's number is not 0.
-pub offer_not_zero : (s : Scheduler) (f : ℕ) (packet store : List ℕ) → (store_offer s f packet store).answer ≡ AnswerRefused 0 → ⊥
-offer_not_zero s f packet store e = answer_not_zero (store_offer_refusal s f packet store) (sym (offer_number s f packet store) ∙ e)
-
-pub departure_not_zero : (s : Scheduler) (store out : List ℕ) → (store_depart s store out).reply ≡ Refused 0 → ⊥
-departure_not_zero s store out e = by (store_depart_refusal store out) refl
-  where
-    by : (n : ℕ) → store_depart_refusal store out ≡ n → ⊥
-    by zero z = never_refused s 0 (sym (depart_made s store out z).2 ∙ e)
-    by (suc n) z = let number : ◌≡◌ {A = ℕ} (suc n) 0 = ap {B = ℕ} (λ r. (of_reply r).refusal) (sym (depart_refused s store out n z).2 ∙ e) in absurd (omega arith)

@@ -6,9 +6,7 @@ pub fn copy_in(dst: &mut [u8], src: &[u8])
     requires { length src.now ≤ length dst.old }
     ensures { dst.new ≡ src.now ++ drop (length src.now) dst.old }
 {
-    let mut i = 0;
-    while i < src.len() {
+    for i in 0..src.len() {
         dst[i] = src[i];
-        i += 1;
     }
 }

@@ -16,8 +16,10 @@ fn start(f: usize, k: usize) -> usize
 
 // Writes a packet in slot k of flow f.
 pub fn write(store: &mut [u8], f: usize, k: usize, packet: &[u8])
-    requires store_len { length store.old ≡ store_length }
-    requires f_lt_flow_limit { (f < flow_limit) × (k < queue_limit) × (length packet.now ≤ size_limit) }
+    requires whole_store { length store.old ≡ store_length }
+    requires flow_in_range { f < flow_limit }
+    requires slot_in_range { k < queue_limit }
+    requires size_in_range { length packet.now ≤ size_limit }
     ensures { store.new ≡ written store.old f k packet.now }
 {
     let at = start(f, k);
@@ -26,9 +28,11 @@ pub fn write(store: &mut [u8], f: usize, k: usize, packet: &[u8])
 
 // Copies the n bytes of slot k of flow f to the start of out.
 pub fn read(store: &[u8], f: usize, k: usize, n: usize, out: &mut [u8])
-    requires store_len { length store.now ≡ store_length }
-    requires f_lt_flow_limit { (f < flow_limit) × (k < queue_limit) × (n ≤ size_limit) }
-    requires out_limit_in_bounds { out_limit ≤ length out.old }
+    requires whole_store { length store.now ≡ store_length }
+    requires flow_in_range { f < flow_limit }
+    requires slot_in_range { k < queue_limit }
+    requires size_in_range { n ≤ size_limit }
+    requires room { out_limit ≤ length out.old }
     ensures { out.new ≡ held store.now f k n ++ drop n out.old }
 {
     let at = start(f, k);

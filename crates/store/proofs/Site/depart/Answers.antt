@@ -1,17 +1,38 @@
--- One law for each way out: the lengths lent refuse, or the call is made.
-use Rattle.store.proofs.SiteLaws.{refused_departure, departure_lengths_right, from_fits, sent_from_there}
+-- The lengths lent refuse, or the call is made.
+use mathlib.Core.Path.{sym, ◌∙◌}
+use Rattle.store.specs.Promised.{scheduler_of}
+use Rattle.store.proofs.CallLaws.{departs}
+use Rattle.store.proofs.SiteLaws.{refused_departure, from_fits, sent_from_there}
 use Rattle.store.proofs.Site.depart.Goals as goal
 
-pub returns-then-refusal-ne0 : goal.returns-then-refusal-ne0
-returns-then-refusal-ne0 c =
-    refused_departure c.args.self c.requires c.args.store.now c.args.out.now c.departure_refusal-refusal.result c.departure_refusal-refusal.ensures c.if-refusal-ne0.true
+pub returns-in-Err : goal.returns-in-Err
+returns-in-Err c =
+    refused_departure c.args.self c.requires c.args.store.now c.args.out.now c.in-Err.refusal (sym c.may_depart.ensures ∙ c.in-Err.is)
 
-pub read-requires : goal.read-requires
-read-requires c = let right = departure_lengths_right c.args.self c.requires c.args.store.now c.args.out.now c.departure_refusal-refusal.result c.departure_refusal-refusal.ensures c.if-refusal-ne0.false in
-    record { store_len = right.0; f_lt_flow_limit = from_fits c.args.self c.requires c.args.store.now c.args.out.now right.0 right.1 c.depart-step.result c.depart-step.ensures; out_limit_in_bounds = right.1 }
+pub read-requires-clause-whole_store : goal.read-requires-clause-whole_store
+read-requires-clause-whole_store c =
+    (departs (scheduler_of c.args.self) c.args.store.now c.args.out.now (sym c.may_depart.ensures ∙ c.in_default.is)).0
+
+pub read-requires-clause-room : goal.read-requires-clause-room
+read-requires-clause-room c =
+    (departs (scheduler_of c.args.self) c.args.store.now c.args.out.now (sym c.may_depart.ensures ∙ c.in_default.is)).1
+
+pub read-requires-clause-flow_in_range : goal.read-requires-clause-flow_in_range
+read-requires-clause-flow_in_range c =
+    let right = departs (scheduler_of c.args.self) c.args.store.now c.args.out.now (sym c.may_depart.ensures ∙ c.in_default.is) in
+    (from_fits c.args.self c.requires c.args.store.now c.args.out.now right.0 right.1 c.depart.result c.depart.ensures).0
+
+pub read-requires-clause-slot_in_range : goal.read-requires-clause-slot_in_range
+read-requires-clause-slot_in_range c =
+    let right = departs (scheduler_of c.args.self) c.args.store.now c.args.out.now (sym c.may_depart.ensures ∙ c.in_default.is) in
+    (from_fits c.args.self c.requires c.args.store.now c.args.out.now right.0 right.1 c.depart.result c.depart.ensures).1
+
+pub read-requires-clause-size_in_range : goal.read-requires-clause-size_in_range
+read-requires-clause-size_in_range c =
+    let right = departs (scheduler_of c.args.self) c.args.store.now c.args.out.now (sym c.may_depart.ensures ∙ c.in_default.is) in
+    (from_fits c.args.self c.requires c.args.store.now c.args.out.now right.0 right.1 c.depart.result c.depart.ensures).2
 
 pub returns : goal.returns
 returns c =
-    let right = departure_lengths_right c.args.self c.requires c.args.store.now c.args.out.now c.departure_refusal-refusal.result c.departure_refusal-refusal.ensures c.if-refusal-ne0.false in
-    sent_from_there c.args.self c.requires c.args.store.now c.args.out.now right.0 right.1 c.depart-step.result c.depart-step.ensures
-    c.read.new.out c.read.ensures
+    let right = departs (scheduler_of c.args.self) c.args.store.now c.args.out.now (sym c.may_depart.ensures ∙ c.in_default.is) in
+    sent_from_there c.args.self c.requires c.args.store.now c.args.out.now right.0 right.1 c.depart.result c.depart.ensures c.read.new.out c.read.ensures

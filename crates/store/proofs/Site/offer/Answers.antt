@@ -1,29 +1,25 @@
--- One law for each way out: the lengths lent refuse, or the call is made.
-use mathlib.Core.Path.{sym}
-use native.Mathlib.Omega.{arith}
-use Rattle.store.proofs.SiteLaws.{refused_offer, offer_lengths_right, into_fits, bytes_there, stored_there}
+-- The lengths lent refuse, or the call is made.
+use Rattle.store.proofs.SiteLaws.{refused_offer, offer_lengths_right, into_fits, packet_small, stored_there, refused_there}
 use Rattle.store.proofs.Site.offer.Goals as goal
 
-pub returns-then-refusal-ne0 : goal.returns-then-refusal-ne0
-returns-then-refusal-ne0 c =
-    refused_offer c.args.self c.requires c.args.f c.args.packet.now c.args.store.now c.offer_refusal-refusal.result c.offer_refusal-refusal.ensures
-    c.if-refusal-ne0.true
+pub returns-in-Err : goal.returns-in-Err
+returns-in-Err c = refused_offer c.args.self c.requires c.args.f c.args.packet.now c.args.store.now c.may_offer.result c.may_offer.ensures c.in-Err.refusal c.in-Err.is
 
-pub slice_bounds-write-end : goal.slice_bounds-write-end
-slice_bounds-write-end c =
-    let store-right = offer_lengths_right c.args.self c.requires c.args.f c.args.packet.now c.args.store.now c.offer_refusal-refusal.result c.offer_refusal-refusal.ensures c.if-refusal-ne0.false in
-    sym (bytes_there c.args.self c.requires c.args.f c.args.packet.now c.args.store.now store-right c.offer-step.result c.offer-step.ensures)
+pub write-requires-clause-flow_in_range : goal.write-requires-clause-flow_in_range
+write-requires-clause-flow_in_range c = (into_fits c.args.self c.requires c.args.f c.args.packet.now c.args.store.now (offer_lengths_right c.args.self c.requires c.args.f c.args.packet.now c.args.store.now c.may_offer.result c.may_offer.ensures c.in_default.is) c.offer-reply.result c.offer-reply.ensures c.in-Ok.place c.in-Ok.is).0
 
-pub write-requires : goal.write-requires
-write-requires c = let store-right = offer_lengths_right c.args.self c.requires c.args.f c.args.packet.now c.args.store.now c.offer_refusal-refusal.result c.offer_refusal-refusal.ensures c.if-refusal-ne0.false in
-    let fits =
-    into_fits c.args.self c.requires c.args.f c.args.packet.now c.args.store.now store-right c.offer-step.result c.offer-step.ensures in
-    let as_many =
-    bytes_there c.args.self c.requires c.args.f c.args.packet.now c.args.store.now store-right c.offer-step.result c.offer-step.ensures in
-    record { store_len = store-right; f_lt_flow_limit = (omega (arith, fits.0.0), omega (arith, fits.0.1), omega (arith, fits.0.2, as_many)) }
+pub write-requires-clause-slot_in_range : goal.write-requires-clause-slot_in_range
+write-requires-clause-slot_in_range c = (into_fits c.args.self c.requires c.args.f c.args.packet.now c.args.store.now (offer_lengths_right c.args.self c.requires c.args.f c.args.packet.now c.args.store.now c.may_offer.result c.may_offer.ensures c.in_default.is) c.offer-reply.result c.offer-reply.ensures c.in-Ok.place c.in-Ok.is).1
 
-pub returns : goal.returns
-returns c =
-    let store-right = offer_lengths_right c.args.self c.requires c.args.f c.args.packet.now c.args.store.now c.offer_refusal-refusal.result c.offer_refusal-refusal.ensures c.if-refusal-ne0.false in
-    stored_there c.args.self c.requires c.args.f c.args.packet.now c.args.store.now store-right
-    c.offer-step.result c.offer-step.ensures c.write.new.store c.write.ensures
+pub write-requires-clause-size_in_range : goal.write-requires-clause-size_in_range
+write-requires-clause-size_in_range c =
+    packet_small c.args.self c.requires c.args.f c.args.packet.now c.args.store.now (offer_lengths_right c.args.self c.requires c.args.f c.args.packet.now c.args.store.now c.may_offer.result c.may_offer.ensures c.in_default.is) c.offer-reply.result c.offer-reply.ensures c.in-Ok.place c.in-Ok.is
+
+pub returns-in-Ok : goal.returns-in-Ok
+returns-in-Ok c =
+    stored_there c.args.self c.requires c.args.f c.args.packet.now c.args.store.now (offer_lengths_right c.args.self c.requires c.args.f c.args.packet.now c.args.store.now c.may_offer.result c.may_offer.ensures c.in_default.is)
+    c.offer-reply.result c.offer-reply.ensures c.in-Ok.place c.in-Ok.is c.write.new.store c.write.ensures
+
+pub returns-in-Err-reply : goal.returns-in-Err-reply
+returns-in-Err-reply c =
+    refused_there c.args.self c.requires c.args.f c.args.packet.now c.args.store.now (offer_lengths_right c.args.self c.requires c.args.f c.args.packet.now c.args.store.now c.may_offer.result c.may_offer.ensures c.in_default.is) c.offer-reply.result c.offer-reply.ensures c.in-Err-reply.refusal c.in-Err-reply.is

@@ -5,4 +5,4 @@ use Rattle.store.proofs.Site.open.Goals as goal
 pub returns : goal.returns
 returns c =
     open_law c.args.self c.args.f c.args.weight
-    c.open-step.result c.open-step.ensures
+    c.open-reply.result c.open-reply.ensures

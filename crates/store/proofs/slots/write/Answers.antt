@@ -6,15 +6,15 @@ use Rattle.store.proofs.slots.write.Goals as goal
 
 pub slice_bounds-copy_in-count : goal.slice_bounds-copy_in-count
 slice_bounds-copy_in-count c =
-    omega (arith, slot_in_store c.args.f c.args.k (length c.args.packet.now) c.requires.f_lt_flow_limit.0 c.requires.f_lt_flow_limit.1 c.requires.f_lt_flow_limit.2)
+    omega (arith, slot_in_store c.args.f c.args.k (length c.args.packet.now) c.requires.flow_in_range c.requires.slot_in_range c.requires.size_in_range)
 
 pub slice_bounds-copy_in-start : goal.slice_bounds-copy_in-start
 slice_bounds-copy_in-start c =
-    omega (arith, slot_in_store c.args.f c.args.k (length c.args.packet.now) c.requires.f_lt_flow_limit.0 c.requires.f_lt_flow_limit.1 c.requires.f_lt_flow_limit.2)
+    omega (arith, slot_in_store c.args.f c.args.k (length c.args.packet.now) c.requires.flow_in_range c.requires.slot_in_range c.requires.size_in_range)
 
 pub copy_in-requires : goal.copy_in-requires
 copy_in-requires c =
-    room_in_part c.args.store.now c.args.packet.now c.args.f c.args.k c.start-at.result c.requires.store_len c.requires.f_lt_flow_limit.0 c.requires.f_lt_flow_limit.1 c.requires.f_lt_flow_limit.2 c.start-at.ensures
+    room_in_part c.args.store.now c.args.packet.now c.args.f c.args.k c.start-at.result c.requires.whole_store c.requires.flow_in_range c.requires.slot_in_range c.requires.size_in_range c.start-at.ensures
 
 pub returns : goal.returns
 returns c =
