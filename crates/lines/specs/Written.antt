@@ -1,12 +1,10 @@
 -- The text of an event: what a line of the replay looks like, with no word of how it is read.
-use Rattle.std.specs.Prelude.{ℕ, zero, suc, ◌+◌, ◌/◌, ◌%◌, ◌≤◌, true, false, List, [], ◌∷◌, ◌++◌, ◌≡◌, ltb, length, drop}
+use Rattle.std.specs.Prelude.{ℕ, zero, suc, ◌+◌, ◌/◌, ◌%◌, ◌≤◌, true, false, List, [], ◌∷◌, ◌++◌, ◌≡◌, ltb, length, drop, Option, Some, None}
 use Prim.Native.Char.{code}
 use Prim.Native.String.{String}
 use Rattle.lines.specs.Text.{bytes}
 use Rattle.lines.specs.declared.Event.{Event}
 use Rattle.lines.specs.declared.Event.TheVariants.{Flow, Arrive, Send}
-use Rattle.lines.specs.declared.Line.{Line}
-use Rattle.lines.specs.declared.Line.TheVariants.{Read, Bad}
 
 -- the byte of a digit
 abbrev pub digit_byte : ℕ → ℕ
@@ -49,7 +47,7 @@ pub record Spans (s : List ℕ) (at : ℕ) (text : List ℕ) (past : ℕ) : Type
   pub ends : past ≡ at + length text
   pub found : drop at s ≡ text ++ drop past s
 
--- What the line at a place is: an event whose line stands there, up to the next place; bad where no event's does.
-abbrev pub LineIs : List ℕ → ℕ → Line → Type 0
-LineIs s at (Read event next) = Sayable event × Spans s at (written event) next
-LineIs s at Bad = (event : Event) (next : ℕ) → Sayable event → Spans s at (written event) next → ⊥
+-- What the line at a place is: an event whose line stands there, up to the next place; bad, which is `None`, where no event's does.
+abbrev pub LineIs : List ℕ → ℕ → Option (Event × ℕ) → Type 0
+LineIs s at (Some (event, next)) = Sayable event × Spans s at (written event) next
+LineIs s at None = (event : Event) (next : ℕ) → Sayable event → Spans s at (written event) next → ⊥

@@ -1,12 +1,9 @@
 -- `lines::digits_at` meets its contract. The loop's invariant: the digits from `at` are what those from `past` make of `value`, with
+-- as many left to read as the counter says, and `value` has as many digits as were read.
 use mathlib.Core.Path.{◌≡◌}
-use Prim.Native.Nat.{◌≤◌, ◌<◌, ◌^◌, ◌-◌}
+use Prim.Native.Nat.{◌<◌, ◌^◌, ◌-◌}
 use Rattle.lines.specs.Number.{digits_from, most_digits}
 use Rattle.lines.proofs.digits_at.Given as goal
 
-abbrev pub invariant-loop-left : goal.invariant-loop-left
-invariant-loop-left l =
-    (digits_from most_digits 0 l.input l.at ≡ digits_from l.left l.value l.input l.past) × (l.left ≤ most_digits) × (l.value < 10 ^ (most_digits - l.left))
-
-abbrev pub decreases-loop-left : goal.decreases-loop-left
-decreases-loop-left l = l.left
+abbrev pub invariant-loop : goal.invariant-loop
+invariant-loop l = (digits_from most_digits 0 l.input l.at ≡ digits_from (most_digits - l.counter) l.value l.input l.past) × (l.value < 10 ^ l.counter)
