@@ -29,7 +29,8 @@ const LARGEST: usize = 65_535;
 // The most digits that a number has.
 const MOST_DIGITS: usize = 5;
 
-// The line at a place: an event and a line feed. None where the line is bad.
+// The line at a place: an event and a line feed, with the next line's place. None where the line is bad.
+// Slice and place are two parameters here, since document 01's struct of the two is the reader's, thin over a covered line parser.
 #[tactic(auto, unfolding(crate::specs::Line::line_at))]
 pub fn line_at(input: &[u8], at: usize) -> Option<(Event, usize)>
     ensures { result ≡ line_at input.now at }

@@ -1,0 +1,2 @@
+-- What a reader gives, one event at a time (Reader).
+pub mod Reader
