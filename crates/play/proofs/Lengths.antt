@@ -7,6 +7,7 @@
 --     log_fits               a log of an eighth of the longest input holds them all
 --     no_departure_left_off  so such a log notes them all
 --     count_within           what is printed lies within the buffer, so that a caller may lend it on
+use Rattle.std.specs.Prelude.{Option, Some, None}
 use Prim.Native.Nat.{ℕ, zero, suc, ◌+◌, ◌*◌, ◌-◌, ◌^◌, ◌<◌, ◌≤◌}
 use native.Mathlib.Decide.{dec_lt}
 use native.Mathlib.Omega.{arith}
@@ -31,8 +32,6 @@ use Rattle.lines.specs.Line.{line_at}
 use Rattle.lines.specs.Written.{decimal, field, event_text, written}
 use Rattle.lines.specs.declared.Event.{Event}
 use Rattle.lines.specs.declared.Event.TheVariants.{Flow as FlowLine, Arrive, Send}
-use Rattle.lines.specs.declared.Line.{Line}
-use Rattle.lines.specs.declared.Line.TheVariants.{Read, Bad}
 use Rattle.lines.proofs.Decimal.{field_length, decimal_begins}
 use Rattle.lines.proofs.Lines.{nothing_else_is_read, moves_on}
 use Rattle.print.specs.Page.{Printed, PrintedWhole}
@@ -274,8 +273,8 @@ story_bound (suc most) input at line r short place l R c =
     known : {s : Script} → script_from (suc most) input at ≡ s → Bound input at r (story r line s) → Bounded (suc most) input at line r
     known e h = subst (λ (s : Script). Bound input at r (story r line s)) (sym e) h
 
-    by_line : at < length input → Again → (m : Line) → line_at input at ≡ m → Bounded (suc most) input at line r
-    by_line within again (Read event next) e =
+    by_line : at < length input → Again → (m : Option (Event × ℕ)) → line_at input at ≡ m → Bounded (suc most) input at line r
+    by_line within again (Some (event, next)) e =
         let on = moves_on input at e in
         let read = (nothing_else_is_read input at e).1.ends in
         let P = event_pays r line event R (omega arith) (omega arith) in
@@ -297,7 +296,7 @@ story_bound (suc most) input at line r short place l R c =
               );
           ending = omega (arith, ap line_told (goes_on r line event rest), B.ending);
         })
-    by_line within again Bad e =
+    by_line within again None e =
         known (spoils input most at within e)
         (record { printed = omega (arith, ap length (text_of_one (bad line)), bad_length line (omega arith)); departing = omega arith; ending = omega arith })
 

@@ -1,19 +1,24 @@
 -- What is left of an input, in the loop of `replay`, leads to the whole transcript.
+use Rattle.std.specs.Prelude.{Option, Some, None}
 use Prim.Native.Nat.{ℕ, ◌+◌, ◌*◌, ◌-◌, ◌^◌, ◌<◌, ◌≤◌}
 use native.Mathlib.Omega.{arith}
-use mathlib.Core.Bool.{Bool, cond}
+use mathlib.Core.Bool.{Bool, true, false, cond}
 use mathlib.Core.List.{List, [], ◌∷◌, ◌++◌}
-use mathlib.Core.Path.{◌≡◌, sym, ap, ap₂, ◌∙◌}
+use mathlib.Core.Path.{◌≡◌, refl, sym, ap, ap₂, subst, ◌∙◌}
+use denote.Ref.{Bor}
+use lib.Dec.{leb}
 use lib.ListN.{length}
-use borrow.Author.Tests.{lt-ltb, le-ltb}
+use borrow.Author.Tests.{lt-ltb, le-ltb, leb-true, leb-false}
 use Rattle.model.specs.Model.{Scheduler}
 use Rattle.model.proofs.Keeps.{new_keeps}
 use Rattle.lines.specs.Line.{line_at}
 use Rattle.lines.specs.Written.{largest, Sayable}
 use Rattle.lines.specs.declared.Event.{Event}
 use Rattle.lines.specs.declared.Event.TheVariants.{Flow, Arrive, Send}
-use Rattle.lines.specs.declared.Line.TheVariants.{Read, Bad}
 use Rattle.lines.proofs.Lines.{moves_on, nothing_else_is_read}
+use Rattle.reader.specs.Reader.{next_of}
+use Rattle.reader.specs.declared.Reader.{Reader}
+use Rattle.reader.proofs.ReaderLaws.{event_taken, nothing_taken}
 use Rattle.order.specs.Encoding.{view, Sound}
 use Rattle.order.specs.Promised.{NewGives}
 use Rattle.order.specs.declared.State.{State}
@@ -66,28 +71,37 @@ too_long_tells input out log out' past h e =
 
 -- ---- the loop
 
--- The replay has come to a place of the input. Every line before it asked for at most 65,535 departures.
-pub record Plays (goal : Desk) (end : Ending) (input out log : List ℕ) (c : Course) (at line : ℕ) : Type 0 where
+-- The replay's reader has come to a place of the input. Every line before it asked for at most 65,535 departures.
+pub record Plays (goal : Desk) (end : Ending) (input out log : List ℕ) (c : Course) (reader : Reader) (line : ℕ) : Type 0 where
+  pub reads : reader.input.now ≡ input
   pub sound : Sound c.state
-  pub place : at ≤ length input
-  pub line_small : line ≤ at + 1
-  pub sent_small : c.sent ≤ at * largest
-  pub reports : reported (desk out c.past log c.noted) (story (replay_of c) line (rest input at)) ≡ goal
-  pub ends : ending_in (story (replay_of c) line (rest input at)) ≡ end
+  pub place : reader.at ≤ length input
+  pub line_small : line ≤ reader.at + 1
+  pub sent_small : c.sent ≤ reader.at * largest
+  pub reports : reported (desk out c.past log c.noted) (story (replay_of c) line (rest input reader.at)) ≡ goal
+  pub ends : ending_in (story (replay_of c) line (rest input reader.at)) ≡ end
 
-pub plays_begin : (input out log : List ℕ) (s : State) → length input ≤ input_limit → NewGives s
-    → Plays (reported (desk out 0 log 0) (reports input)) (ending_of input) input out log (record { state = s; sent = 0; past = 0; noted = 0 }) 0 1
+pub plays_begin : (text : Bor (List ℕ)) (out log : List ℕ) (s : State) → length text.now ≤ input_limit → NewGives s → (reader : Reader) → reader ≡ record { input = text; at = 0 }
+    → Plays (reported (desk out 0 log 0) (reports text.now)) (ending_of text.now) text.now out log (record { state = s; sent = 0; past = 0; noted = 0 }) reader 1
 unfolding replay_of new_replay script_of ending_of
-plays_begin input out log s short g =
-    record {
+plays_begin text out log s short g reader first =
+    subst Begun (sym first)
+    (record {
+      reads = refl;
       sound = g.sound;
       place = omega arith;
       line_small = omega arith;
       sent_small = omega arith;
       reports = ap (reported (desk out 0 log 0)) whole;
       ends = ap ending_in whole;
-    }
+    })
   where
+    input : List ℕ
+    input = text.now
+
+    Begun : Reader → Type 0
+    Begun r = Plays (reported (desk out 0 log 0) (reports input)) (ending_of input) input out log (record { state = s; sent = 0; past = 0; noted = 0 }) r 1
+
     all : length input - 0 ≡ length input
     all = omega arith
 
@@ -99,64 +113,74 @@ asked_at_most (Flow flow weight) h = omega arith
 asked_at_most (Arrive flow size) h = omega arith
 asked_at_most (Send count) h = h
 
-module _ {goal : Desk} {end : Ending} {input out log : List ℕ} {c : Course} {at line : ℕ} (h : Plays goal end input out log c at line) where
+module _ {goal : Desk} {end : Ending} {input out log : List ℕ} {c : Course} {reader : Reader} {line : ℕ} (h : Plays goal end input out log c reader line)
+    {at_end : Bool} (t : at_end ≡ leb (length reader.input.now) reader.at) where
   -- What is left of the story, once it is known.
-  leads : {l : List Report} → story (replay_of c) line (rest input at) ≡ l → (reported (desk out c.past log c.noted) l ≡ goal) × (ending_in l ≡ end)
+  leads : {l : List Report} → story (replay_of c) line (rest input reader.at) ≡ l → (reported (desk out c.past log c.noted) l ≡ goal) × (ending_in l ≡ end)
   leads e = (ap (reported (desk out c.past log c.noted)) (sym e) ∙ h.reports, ap ending_in (sym e) ∙ h.ends)
 
-  pub plays_end : length input ≤ at → (desk out c.past log c.noted ≡ goal) × (Whole ≡ end)
+  pub plays_end : at_end ≡ true → (desk out c.past log c.noted ≡ goal) × (Whole ≡ end)
   unfolding story ending_in
   plays_end e =
-      let l = leads (ap (story (replay_of c) line) (ends input (length input - at) at e)) in
+      let past : length input ≤ reader.at = rw h.reads at (leb-true (length reader.input.now) reader.at (sym t ∙ e)) in
+      let l = leads (ap (story (replay_of c) line) (ends input (length input - reader.at) reader.at past)) in
       (sym (nothing_reported (desk out c.past log c.noted)) ∙ l.0, l.1)
 
-  module _ (within : at < length input) where
-    pub plays_bad : {out' : List ℕ} {past' : ℕ} → line_at input at ≡ Bad → page out' past' ≡ put (page out c.past) (line_of (bad line))
+  module _ (more : at_end ≡ false) {taken : Option Event} {after : Reader} (n : ◌≡◌ {A = Option Event × Reader} (taken, after) (next_of reader)) where
+    within : reader.at < length input
+    within = rw h.reads at (leb-false (length reader.input.now) reader.at (sym t ∙ more))
+
+    pub plays_bad : {out' : List ℕ} {past' : ℕ} → taken ≡ None → page out' past' ≡ put (page out c.past) (line_of (bad line))
         → (desk out' past' log c.noted ≡ goal) × (BadLine line ≡ end)
     unfolding story ending_in
     plays_bad e f =
-        let l = leads (ap (story (replay_of c) line) (rest_spoils input at within e)) in
+        let bad_there : line_at input reader.at ≡ None = rw h.reads at (nothing_taken reader n e) in
+        let l = leads (ap (story (replay_of c) line) (rest_spoils input reader.at within bad_there)) in
         (bad_reported (desk out c.past log c.noted) line f ∙ l.0, l.1)
 
-    module _ {event : Event} {next : ℕ} (e : line_at input at ≡ Read event next) (short : length input ≤ input_limit) where
-      pub less_left : length input - next < length input - at
-      less_left = omega (arith, moves_on input at e)
+    module _ {event : Event} (e : taken ≡ Some event) (short : length input ≤ input_limit) where
+      line_there : line_at input reader.at ≡ Some (event, after.at)
+      line_there = rw h.reads at (event_taken reader n e).0
+
+      on : (reader.at < after.at) × (after.at ≤ length input)
+      on = moves_on input reader.at line_there
+
+      pub less_left : length input - after.at < length input - reader.at
+      less_left = omega (arith, on)
 
       few_asked : asked event ≤ largest
-      few_asked = asked_at_most event (nothing_else_is_read input at e).0
+      few_asked = asked_at_most event (nothing_else_is_read input reader.at line_there).0
 
       pub may_run : Sound c.state × (c.sent + asked event < 2 ^ 64)
       may_run = (h.sound, omega (arith, few_asked, h.sent_small))
 
-      pub plays_on : {out' log' : List ℕ} {d : Course} → Goes c out log (happening (replay_of c) line event) d out' log' → Plays goal end input out' log' d next (line + 1)
+      pub plays_on : {out' log' : List ℕ} {d : Course} → Goes c out log (happening (replay_of c) line event) d out' log' → Plays goal end input out' log' d after (line + 1)
       unfolding story replay_of
       plays_on {out'} {log'} {d} g =
           record {
+            reads = ap (λ (text : Bor (List ℕ)). text.now) (event_taken reader n e).1 ∙ h.reads;
             sound = g.sound;
             place = on.1;
             line_small = omega (arith, on.0, h.line_small);
             sent_small = few;
             reports =
-                ap₂ (λ (k : Desk) (r : Replay). reported k (story r (line + 1) (rest input next))) g.reports g.arrives
+                ap₂ (λ (k : Desk) (r : Replay). reported k (story r (line + 1) (rest input after.at))) g.reports g.arrives
                 ∙ sym (reported_append (desk out c.past log c.noted) x.reports further)
                 ∙ left.0;
-            ends = ap (λ (r : Replay). ending_in (story r (line + 1) (rest input next))) g.arrives ∙ sym (goes_on (replay_of c) line event further) ∙ left.1;
+            ends = ap (λ (r : Replay). ending_in (story r (line + 1) (rest input after.at))) g.arrives ∙ sym (goes_on (replay_of c) line event further) ∙ left.1;
           }
         where
-          on : (at < next) × (next ≤ length input)
-          on = moves_on input at e
-
           x : Happening
           x = happening (replay_of c) line event
 
           further : List Report
-          further = story x.after (line + 1) (rest input next)
+          further = story x.after (line + 1) (rest input after.at)
 
           left : (reported (desk out c.past log c.noted) (x.reports ++ further) ≡ goal) × (ending_in (x.reports ++ further) ≡ end)
-          left = leads (ap (story (replay_of c) line) (rest_reads input at within e))
+          left = leads (ap (story (replay_of c) line) (rest_reads input reader.at within line_there))
 
           sent_is : d.sent ≡ x.after.departed
           sent_is = ap (λ (r : Replay). r.departed) g.arrives
 
-          few : d.sent ≤ next * largest
+          few : d.sent ≤ after.at * largest
           few = omega (arith, sent_is, departed_at_most (replay_of c) line event, few_asked, h.sent_small, on.0)

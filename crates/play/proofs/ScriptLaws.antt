@@ -1,5 +1,6 @@
 -- The script of an input, line by line. Its bound on the lines never cuts it short.
 --     more_lines_allowed   a larger bound gives the same script
+use Rattle.std.specs.Prelude.{Option, Some, None}
 use Prim.Native.Nat.{ℕ, zero, suc, ◌+◌, ◌-◌, ◌<◌, ◌≤◌}
 use native.Mathlib.Decide.{dec_lt}
 use native.Mathlib.Omega.{arith}
@@ -9,8 +10,6 @@ use lib.ListN.{length}
 use borrow.Author.Tests.{lt-ltb, le-ltb}
 use Rattle.lines.specs.Line.{line_at}
 use Rattle.lines.specs.declared.Event.{Event}
-use Rattle.lines.specs.declared.Line.{Line}
-use Rattle.lines.specs.declared.Line.TheVariants.{Read, Bad}
 use Rattle.lines.proofs.Lines.{moves_on}
 use Rattle.play.specs.Script.{Script, ended, spoiled, ◌then◌, script_from, script_of}
 
@@ -22,11 +21,11 @@ module _ (input : List ℕ) where
   ends zero at h = refl
   ends (suc most) at h = rw (script_from, le-ltb at (length input) h)
 
-  pub reads : (most at : ℕ) {event : Event} {next : ℕ} → at < length input → line_at input at ≡ Read event next → script_from (suc most) input at ≡ event then script_from most input next
+  pub reads : (most at : ℕ) {event : Event} {next : ℕ} → at < length input → line_at input at ≡ Some (event, next) → script_from (suc most) input at ≡ event then script_from most input next
   unfolding script_from
   reads most at h e = rw (script_from, lt-ltb at (length input) h, e)
 
-  pub spoils : (most at : ℕ) → at < length input → line_at input at ≡ Bad → script_from (suc most) input at ≡ spoiled
+  pub spoils : (most at : ℕ) → at < length input → line_at input at ≡ None → script_from (suc most) input at ≡ spoiled
   unfolding script_from
   spoils most at h e = rw (script_from, lt-ltb at (length input) h, e)
 
@@ -37,11 +36,11 @@ module _ (input : List ℕ) where
   enough (suc k) zero at h j = ends (suc k) at (omega arith) ∙ sym (ends zero at (omega arith))
   enough (suc k) (suc l) at h j = by_place (dec_lt at (length input)) (λ next further. enough k l next (omega arith) (omega arith))
     where
-      by_line : at < length input → (m : Line) → line_at input at ≡ m
+      by_line : at < length input → (m : Option (Event × ℕ)) → line_at input at ≡ m
           → ((next : ℕ) → at < next → script_from k input next ≡ script_from l input next) → script_from (suc k) input at ≡ script_from (suc l) input at
-      by_line within (Read event next) e again =
+      by_line within (Some (event, next)) e again =
           reads k at within e ∙ ap (λ (s : Script). event then s) (again next (moves_on input at e).0) ∙ sym (reads l at within e)
-      by_line within Bad e again = spoils k at within e ∙ sym (spoils l at within e)
+      by_line within None e again = spoils k at within e ∙ sym (spoils l at within e)
 
       by_place : Dec (at < length input) → ((next : ℕ) → at < next → script_from k input next ≡ script_from l input next) → script_from (suc k) input at ≡ script_from (suc l) input at
       by_place (yes within) again = by_line within (line_at input at) refl again
@@ -57,7 +56,7 @@ module _ (input : List ℕ) where
   rest at = script_from (length input - at) input at
 
   module _ (at : ℕ) (within : at < length input) where
-    pub rest_reads : {event : Event} {next : ℕ} → line_at input at ≡ Read event next → rest at ≡ event then rest next
+    pub rest_reads : {event : Event} {next : ℕ} → line_at input at ≡ Some (event, next) → rest at ≡ event then rest next
     rest_reads {event} {next} e =
         let on = moves_on input at e in
         ap (λ (n : ℕ). script_from n input at) more
@@ -67,7 +66,7 @@ module _ (input : List ℕ) where
         more : length input - at ≡ suc (length input - at - 1)
         more = omega arith
 
-    pub rest_spoils : line_at input at ≡ Bad → rest at ≡ spoiled
+    pub rest_spoils : line_at input at ≡ None → rest at ≡ spoiled
     rest_spoils e = ap (λ (n : ℕ). script_from n input at) more ∙ spoils (length input - at - 1) at within e
       where
         more : length input - at ≡ suc (length input - at - 1)

@@ -1,8 +1,7 @@
 -- The events of an input, line by line.
-use Rattle.std.specs.Prelude.{ℕ, zero, suc, true, false, List, length, ltb}
+use Rattle.std.specs.Prelude.{ℕ, zero, suc, true, false, List, length, ltb, Some, None}
 use Rattle.lines.specs.Line.{line_at}
 use Rattle.lines.specs.declared.Event.{Event}
-use Rattle.lines.specs.declared.Line.TheVariants.{Read, Bad}
 
 infixr 60 ◌then◌
 -- The events in order, up to the end of the input or to a line that is none of the three.
@@ -16,7 +15,7 @@ unfoldable pub script_from : ℕ → List ℕ → ℕ → Script
 script_from zero input at = ended
 script_from (suc most) input at =
     elim (ltb at (length input)) [
-      | true ↦ elim (line_at input at) [ Read event next ↦ event then script_from most input next | Bad ↦ spoiled ]
+      | true ↦ elim (line_at input at) [ Some (event, next) ↦ event then script_from most input next | None ↦ spoiled ]
       | false ↦ ended
     ]
 

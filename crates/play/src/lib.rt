@@ -9,9 +9,10 @@ ghost use Rattle.print.specs.Page.{page, put, Printed, PrintedWhole};
 ghost use Rattle.play.specs.Story.{refusal, sending, happening};
 ghost use Rattle.play.specs.Transcript.{input_limit, output_limit, text_of, reports, transcript};
 
-use lines::{Event, Line};
+use lines::Event;
 use model::{Answer, Reply};
 use order::State;
+use reader::Reader;
 
 mod log;
 mod report;
@@ -92,10 +93,10 @@ fn replay(input: &[u8], out: &mut [u8], log: &mut [u16]) -> Told
         past: 0,
         noted: 0,
     };
-    let mut at = 0;
+    let mut reader = Reader::new(input);
     let mut line = 1;
-    while at < input.len() {
-        let Line::Read(event, next) = reader::read(input, at) else {
+    while !reader.is_at_end() {
+        let Some(event) = reader.next() else {
             let written = report::bad_line(out, course.past, line);
             return Told {
                 written,
@@ -104,7 +105,6 @@ fn replay(input: &[u8], out: &mut [u8], log: &mut [u16]) -> Told
             };
         };
         course = run(out, log, course, event, line);
-        at = next;
         line += 1;
     }
     Told {

@@ -1,4 +1,5 @@
 -- `play::replay` meets its contract. The loop's invariant: what is left of the replay leads to all that it reports. The measure is what is left of the
+-- input.
 use Prim.Native.Nat.{◌-◌}
 use lib.ListN.{length}
 use Rattle.play.specs.Course.{desk, reported}
@@ -7,8 +8,8 @@ use Rattle.play.specs.Transcript.{reports}
 use Rattle.play.proofs.PlayLaws.{Plays}
 use Rattle.play.proofs.replay.Given as goal
 
-abbrev pub invariant-loop-at : goal.invariant-loop-at
-invariant-loop-at l = Plays (reported (desk l.initial.out 0 l.initial.log 0) (reports l.input)) (ending_of l.input) l.input l.out l.log l.course l.at l.line
+abbrev pub invariant-loop-reader : goal.invariant-loop-reader
+invariant-loop-reader l = Plays (reported (desk l.initial.out 0 l.initial.log 0) (reports l.input)) (ending_of l.input) l.input l.out l.log l.course l.reader l.line
 
-abbrev pub decreases-loop-at : goal.decreases-loop-at
-decreases-loop-at l = length l.input - l.at
+abbrev pub decreases-loop-reader : goal.decreases-loop-reader
+decreases-loop-reader l = length l.input - l.reader.at
