@@ -1,5 +1,5 @@
 -- `lines::digits_at` meets its contract. The loop's invariant: the digits from `at` are what those from `past` make of `value`, with
--- as many left to read as the counter says, and `value` has as many digits as were read.
+-- as many left to read as are not counted yet, and `value` has as many digits as were counted.
 use mathlib.Core.Path.{◌≡◌}
 use Prim.Native.Nat.{◌<◌, ◌^◌, ◌-◌}
 use Rattle.lines.specs.Number.{digits_from, most_digits}
