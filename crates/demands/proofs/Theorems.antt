@@ -24,7 +24,7 @@ use Rattle.model.proofs.Bursting.{BurstShows, burst_shows, none_asked, burst_sta
 use Rattle.order.specs.Encoding.{encode, view}
 use Rattle.order.specs.Promised.{answered_as, offered_as, departed_as, counted_as, OpenGives, OfferGives, DepartGives, BurstGives}
 use Rattle.order.specs.Runs.{Singles, Does}
-use Rattle.order.specs.declared.State.{State}
+use Rattle.order.specs.State.{State}
 use Rattle.order.specs.declared.Answered.{Answered}
 use Rattle.order.specs.declared.Departed.{Departed}
 use Rattle.order.specs.declared.Placed.{Placed}
@@ -36,7 +36,7 @@ use Rattle.store.specs.StoreCalls.{WithStore, StoreCall, offering, store_calls, 
 use Rattle.store.specs.StoreCalls as OnBytes
 use Rattle.store.specs.Promised as Store
 use Rattle.store.specs.Runs as StoreCode
-use Rattle.store.specs.declared.Site.{Site}
+use Rattle.store.specs.Site.{Site}
 use Rattle.store.specs.declared.SiteAnswered.{SiteAnswered}
 use Rattle.store.specs.declared.SiteDeparted.{SiteDeparted}
 use Rattle.store.proofs.Follows as Site

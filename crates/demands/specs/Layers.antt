@@ -6,13 +6,13 @@ use Rattle.model.specs.OrderCalls.{order_calls, sizes_of, packets_of}
 use Rattle.order.specs.Encoding.{Sound}
 use Rattle.order.specs.Promised as Order
 use Rattle.order.specs.Runs as OrderCode
-use Rattle.order.specs.declared.State.{State}
+use Rattle.order.specs.State.{State}
 use Rattle.store.specs.Slots.{store_length}
 use Rattle.store.specs.Promised.{SoundSite}
 use Rattle.store.specs.Promised as Store
 use Rattle.store.specs.StoreCalls.{WithStore, with_store, store_calls, bytes_of, waiting_bytes}
 use Rattle.store.specs.Runs as StoreCode
-use Rattle.store.specs.declared.Site.{Site}
+use Rattle.store.specs.Site.{Site}
 use Rattle.image.specs.Image.{image_length, SoundImage}
 use Rattle.houghbreeze.specs.Runs as Firmware
 use Rattle.demands.specs.Demands.{Layer}

@@ -19,11 +19,11 @@ use Rattle.steps.specs.Places.{joining_place, leaving_place}
 use Rattle.order.specs.Encoding.{view}
 use Rattle.order.specs.Promised as Order
 use Rattle.order.specs.Runs as OrderCode
-use Rattle.order.specs.declared.State.{State}
+use Rattle.order.specs.State.{State}
 use Rattle.store.specs.Runs as StoreCode
 use Rattle.store.specs.StoreCalls.{StoreCall, WithStore, with_store, back, put_out}
 use Rattle.store.specs.StoreCalls as Bytes
-use Rattle.store.specs.declared.Site.{Site}
+use Rattle.store.specs.Site.{Site}
 use Rattle.image.specs.Image.{image_of, state_in, SoundImage}
 use Rattle.houghbreeze.specs.Promised.{site_in}
 use Rattle.image.specs.Replies.{heard, of_answer, of_reply, of_count}

@@ -19,7 +19,7 @@ use Rattle.steps.specs.declared.RoundCell.{RoundCell}
 use Rattle.layout.specs.Layout.{cells_length}
 use Rattle.order.specs.Encoding.{view, Sound, state_with}
 use Rattle.order.specs.Promised.{OpenGives, OfferGives, DepartGives, BurstGives, opened_in, placed_in, departed_in, counted_in, offered_as, departed_as, counted_as}
-use Rattle.order.specs.declared.State.{State}
+use Rattle.order.specs.State.{State}
 use Rattle.order.specs.declared.LentOffer.{LentOffer}
 use Rattle.order.specs.declared.LentDeparture.{LentDeparture}
 use Rattle.order.specs.declared.LentBurst.{LentBurst}

@@ -4,9 +4,9 @@ use Rattle.std.specs.Prelude.{ℕ, ◌≡◌, List, length}
 use Rattle.steps.specs.Places.{joining_place, leaving_place}
 use Rattle.order.specs.Encoding.{view}
 use Rattle.order.specs.Promised as Order
-use Rattle.order.specs.declared.State.{State}
+use Rattle.order.specs.State.{State}
 use Rattle.store.specs.Promised as Store
-use Rattle.store.specs.declared.Site.{Site}
+use Rattle.store.specs.Site.{Site}
 use Rattle.image.specs.Image.{image_of, state_in, SoundImage}
 use Rattle.image.specs.Replies.{of_answer, of_reply, of_count}
 use Rattle.image.specs.declared.HbReply.{HbReply}

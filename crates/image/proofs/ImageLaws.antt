@@ -14,7 +14,7 @@ use Rattle.steps.specs.Cells.{cells, packed, encode_flow}
 use Rattle.layout.specs.Bytes.{digits}
 use Rattle.layout.specs.Layout.{cells_length, joined, bytes_of}
 use Rattle.order.specs.Encoding.{encode, view, state_with, Sound}
-use Rattle.order.specs.declared.State.{State}
+use Rattle.order.specs.State.{State}
 use Rattle.order.proofs.StateLaws.{bytes_count, round_of_sound}
 use Rattle.image.specs.Image.{turn_bytes, TurnFits, round_bytes, image_of, image_length, state_in, SoundImage}
 use Rattle.image.proofs.RoundBytes.{round_bytes_length, NumbersFit, RoundFits, round_read}

@@ -7,7 +7,7 @@ use Rattle.steps.specs.declared.RoundCell.{RoundCell}
 use Rattle.layout.specs.Bytes.{digits, number}
 use Rattle.layout.specs.Layout.{cells_length}
 use Rattle.order.specs.Encoding.{state_with, Sound}
-use Rattle.order.specs.declared.State.{State}
+use Rattle.order.specs.State.{State}
 
 -- A number that may be above 255 takes so many bytes.
 abbrev pub pair_room : ℕ

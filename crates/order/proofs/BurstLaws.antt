@@ -19,7 +19,7 @@ use Rattle.model.specs.declared.Sent.{Sent}
 use Rattle.model.proofs.Keeps.{departed_keeps}
 use Rattle.order.specs.Encoding.{encode, view, Sound}
 use Rattle.order.specs.Promised.{counted_as, departed_as, DepartGives, BurstGives}
-use Rattle.order.specs.declared.State.{State}
+use Rattle.order.specs.State.{State}
 use Rattle.order.specs.declared.Departed.{Departed}
 use Rattle.order.proofs.StateLaws.{seen_as, sound_of}
 

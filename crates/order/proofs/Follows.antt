@@ -20,7 +20,7 @@ use Rattle.model.proofs.Chains.{SendsNothing, Still, still_after}
 use Rattle.order.specs.Encoding.{encode, view, Sound}
 use Rattle.order.specs.Promised.{NewGives, DepartGives, answered_as, offered_as, departed_as, counted_as}
 use Rattle.order.specs.Runs.{Singles, none, one_more, Does, resets, opens, offers, departs, bursts}
-use Rattle.order.specs.declared.State.{State}
+use Rattle.order.specs.State.{State}
 use Rattle.std.specs.Prelude.{Result, Ok, Err}
 use Rattle.order.specs.declared.Departed.{Departed}
 use Rattle.steps.specs.declared.Place.{Place}

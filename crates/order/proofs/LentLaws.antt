@@ -32,7 +32,7 @@ use Rattle.layout.specs.Layout.{cells_length, flow_in, line_in, line_start, with
 use Rattle.layout.proofs.Laws.{with_flow_length}
 use Rattle.order.specs.Encoding.{view, Sound}
 use Rattle.order.specs.Promised.{OpenGives, OfferGives, DepartGives, left_by}
-use Rattle.order.specs.declared.State.{State}
+use Rattle.order.specs.State.{State}
 use Rattle.order.proofs.StateLaws.{round_of, round_of_sound, bytes_count, cell_ready, at_in_reach, may_visit, visit_seen, departed_gives, index_in_reach, opened_gives, open_refused_gives, may_offer_to, offered_gives, offer_refused_gives}
 
 -- The line as it is lent, and the bytes with a line that has come back.

@@ -3,7 +3,7 @@ use Prim.Native.Nat.{ℕ}
 use mathlib.Core.Path.{◌≡◌, sym, ◌∙◌}
 use mathlib.Core.List.{List}
 use Rattle.order.specs.Promised.{NewGives, OpenGives, OfferGives, DepartGives, BurstGives}
-use Rattle.order.specs.declared.State.{State}
+use Rattle.order.specs.State.{State}
 use Rattle.std.specs.Prelude.{Result}
 use Rattle.model.specs.Replies.{Answer, Count}
 use Rattle.model.specs.declared.Outcome.{Outcome}

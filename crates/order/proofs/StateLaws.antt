@@ -41,7 +41,7 @@ use Rattle.order.specs.declared.Departed.{Departed}
 use Rattle.steps.specs.declared.FlowCell.{FlowCell}
 use Rattle.steps.specs.declared.Place.{Place}
 use Rattle.steps.specs.declared.RoundCell.{RoundCell}
-use Rattle.order.specs.declared.State.{State}
+use Rattle.order.specs.State.{State}
 use Rattle.steps.proofs.Encoded.{cells_as_long, flow_seen, flow_ready, round_seen, waiting_is, length_is}
 use Rattle.steps.proofs.Packed.{packed_fits}
 

@@ -5,7 +5,7 @@ use Rattle.model.specs.Rules.{Rules}
 use Rattle.steps.specs.Cells.{cells, line_room, encode_flow, view_flow}
 use Rattle.steps.specs.declared.RoundCell.{RoundCell}
 use Rattle.layout.specs.Layout.{bytes_of, flows_in, line_in}
-use Rattle.order.specs.declared.State.{State}
+use Rattle.order.specs.State.{State}
 
 unfoldable pub encode : Scheduler → State
 encode s =
@@ -36,8 +36,8 @@ view c =
           };
     }
 
--- The premise of every call: the state has its one form, and document 01's rules hold of the scheduler it stands for. Every state that came from a new
--- scheduler, a reset or an earlier reply meets it.
+-- What is so of every state that came from a new scheduler, a reset or an earlier reply: it has its one form, and document 01's rules hold of the scheduler
+-- that it stands for. The struct keeps it, so no call of the order layer asks for it; those in place, which have its parts lent, do.
 pub record Sound (c : State) : Type 0 where
   pub form : c ≡ encode (view c)
   pub rules : Rules (view c)

@@ -10,7 +10,7 @@ use Rattle.order.specs.Encoding.{encode, view, Sound, state_with}
 use Rattle.steps.specs.Places.{joining_place, leaving_place}
 use Rattle.steps.specs.declared.Place.{Place}
 use Rattle.steps.specs.declared.RoundCell.{RoundCell}
-use Rattle.order.specs.declared.State.{State}
+use Rattle.order.specs.State.{State}
 use Rattle.order.specs.declared.Departed.{Departed}
 
 -- An outcome of the model, as code gives it.

@@ -5,7 +5,7 @@ use Rattle.model.specs.Chain.{Seen, seen_reset, seen_asking, seen_departing}
 use Rattle.model.specs.OrderCalls.{Call, Packet, resetting, opening, offering, departing, bursting}
 use Rattle.model.specs.declared.Sent.{Sent}
 use Rattle.order.specs.Promised.{NewGives, OpenGives, OfferGives, DepartGives, BurstGives}
-use Rattle.order.specs.declared.State.{State}
+use Rattle.order.specs.State.{State}
 use Rattle.order.specs.declared.Departed.{Departed}
 use Rattle.steps.specs.declared.Place.{Place}
 use Rattle.model.specs.declared.Outcome.{Outcome}

@@ -1,21 +1,33 @@
 // The calls on packet sizes: document 01's order layer. Each takes the scheduler's state and hands it back beside its reply.
 #![tactic(auto)]
 
-ghost use Rattle.order.specs.Encoding.{Sound};
+ghost use Rattle.order.specs.State.{State as Parts};
+ghost use Rattle.order.specs.Encoding.{Sound, state_with};
 ghost use Rattle.order.specs.Promised.{NewGives, OpenGives, OfferGives, DepartGives, BurstGives};
 
 use layout::CELLS;
 use model::{Outcome, Refusal, Reply, Serving};
+use std::marker::Model;
 use steps::{Place, RoundCell};
 
 pub mod in_place;
 
-// The scheduler's state, which only the calls make: the bytes of its flows and its line, and its round. The round's type is public because states lie in
-// other crates' structs.
+// The scheduler's state, which only the calls make: the bytes of its flows and its line, and its round.
 #[derive(Clone, Copy)]
 pub struct State {
     cells: [u8; CELLS],
     round: RoundCell,
+}
+
+// Contracts see what it holds. Every state is one that calls gave.
+impl Model for State {
+    ghost Value = { Parts };
+
+    ghost view = { λ s. state_with s.cells s.round };
+
+    ghost invariant = { λ s. Sound (state_with s.cells s.round) };
+
+    ghost inverse = { λ s. record { cells = s.cells; round = s.round } };
 }
 
 // What a departure call tells: its reply and, for the layer that has the packets' bytes, where the packet lay; of size 0 where none departs.
@@ -48,7 +60,6 @@ impl State {
     }
 
     pub fn open(mut self, f: usize, weight: usize) -> Outcome<State, Result<(), Refusal>>
-        requires { Sound self }
         ensures { OpenGives self f weight result }
     {
         let round = self.round;
@@ -58,7 +69,6 @@ impl State {
 
     // Tells, for the layer that has the packets' bytes, where the packet lies that is accepted.
     pub fn offer(mut self, f: usize, size: usize) -> Outcome<State, Result<Place, Refusal>>
-        requires { Sound self }
         ensures { OfferGives self f size result }
     {
         let reply = in_place::offer(&mut self.cells, &mut self.round, f, size);
@@ -66,7 +76,6 @@ impl State {
     }
 
     pub fn depart(mut self) -> Outcome<State, Departed>
-        requires { Sound self }
         ensures { DepartGives self result }
     {
         let reply = in_place::depart(&mut self.cells, &mut self.round);
@@ -75,7 +84,6 @@ impl State {
 
     // Up to n departures, whose flow numbers go into the list from its start; tells how many there were.
     pub fn burst(mut self, n: usize, list: &mut [u8]) -> Outcome<State, Result<usize, Refusal>>
-        requires { Sound self }
         ensures { BurstGives self n list.old list.new result }
     {
         let reply = in_place::burst(&mut self.cells, &mut self.round, n, list);

@@ -18,7 +18,7 @@ use Rattle.order.specs.Promised.{answered_as, offered_as, departed_as, OpenGives
 use Rattle.order.specs.declared.Answered.{Answered}
 use Rattle.order.specs.declared.Departed.{Departed}
 use Rattle.order.specs.declared.Placed.{Placed}
-use Rattle.order.specs.declared.State.{State}
+use Rattle.order.specs.State.{State}
 use Rattle.order.proofs.StateLaws.{open_seen, offer_seen, depart_seen}
 use Rattle.play.specs.Course.{replay_of, asked, Desk, desk, reported, Goes}
 use Rattle.print.specs.Page.{page, put}

@@ -21,7 +21,7 @@ use Rattle.reader.specs.declared.Reader.{Reader}
 use Rattle.reader.proofs.ReaderLaws.{event_taken, nothing_taken}
 use Rattle.order.specs.Encoding.{view, Sound}
 use Rattle.order.specs.Promised.{NewGives}
-use Rattle.order.specs.declared.State.{State}
+use Rattle.order.specs.State.{State}
 use Rattle.order.proofs.StateLaws.{seen_as}
 use Rattle.play.specs.Course.{replay_of, asked, Desk, desk, reported, Goes, Tells}
 use Rattle.play.specs.Log.{departures_in, ending_in, departures_of, ending_of, log_of}

@@ -14,7 +14,7 @@ use Rattle.store.specs.Calls.{AfterOffer, AfterDeparture, store_offer, store_dep
 use Rattle.store.specs.Promised.{scheduler_of, SoundSite, site_of, answered_as, departed_as, NewGives, OfferGives, DepartGives}
 use Rattle.store.specs.StoreCalls.{StoreCall, resetting, opening, offering, departing, WithStore, lent, back, Packet, put_out, does, store_calls}
 use Rattle.store.specs.Runs.{Does, resets, opens, offers, departs}
-use Rattle.store.specs.declared.Site.{Site}
+use Rattle.store.specs.Site.{Site}
 use Rattle.model.specs.declared.Outcome.{Outcome}
 use Rattle.model.specs.declared.Reply.{Reply}
 use Rattle.store.proofs.CallLaws.{offer_keeps, depart_keeps}

@@ -3,7 +3,7 @@ use Prim.Native.Nat.{ℕ}
 use mathlib.Core.Path.{◌≡◌, sym, ◌∙◌}
 use mathlib.Core.List.{List}
 use Rattle.store.specs.Promised.{NewGives, OpenGives, OfferGives, DepartGives}
-use Rattle.store.specs.declared.Site.{Site}
+use Rattle.store.specs.Site.{Site}
 use Rattle.model.specs.Replies.{Answer}
 use Rattle.model.specs.declared.Outcome.{Outcome}
 use Rattle.model.specs.declared.Reply.{Reply}

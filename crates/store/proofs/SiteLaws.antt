@@ -28,11 +28,11 @@ use Rattle.steps.specs.Places.{end_place, first_place, leaving_place}
 use Rattle.order.specs.Promised as order
 use Rattle.order.specs.declared.Departed.{Departed}
 use Rattle.steps.specs.declared.Place.{Place}
-use Rattle.order.specs.declared.State.{State}
+use Rattle.order.specs.State.{State}
 use Rattle.store.specs.Slots.{store_length, out_limit, written, held}
 use Rattle.store.specs.Calls.{store_offer, store_offer_answer, store_depart, store_depart_answer, sent_out}
 use Rattle.store.specs.Promised.{scheduler_of, SoundSite, site_of, answered_as, departed_as, NewGives, OpenGives, OfferGives, DepartGives}
-use Rattle.store.specs.declared.Site.{Site}
+use Rattle.store.specs.Site.{Site}
 use Rattle.store.proofs.SlotLaws.{held_nothing}
 use Rattle.store.proofs.CallLaws.{offer_wrong_store, offer_state, offer_reply, offer_refused, offer_writes, offer_answered, depart_may, depart_refused, depart_made, sent_departure}
 

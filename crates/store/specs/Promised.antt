@@ -8,13 +8,13 @@ use Rattle.model.specs.declared.Outcome.{Outcome}
 use Rattle.model.specs.declared.Reply.{Reply}
 use Rattle.order.specs.Encoding.{encode, view, Sound}
 use Rattle.store.specs.Calls.{store_offer, store_depart}
-use Rattle.store.specs.declared.Site.{Site}
+use Rattle.store.specs.Site.{Site}
 
 -- The scheduler that a site stands for.
 unfoldable pub scheduler_of : Site → Scheduler
 scheduler_of site = view site.order
 
--- The premise of every call, which every site that came from a new one, a reset or an earlier reply meets.
+-- What is so of every site that came from a new one, a reset or an earlier reply. The struct keeps it, so no call asks for it.
 abbrev pub SoundSite : Site → Type 0
 SoundSite site = Sound site.order
 

@@ -4,7 +4,7 @@ use Rattle.model.specs.Replies.{Answer, of_answer, of_reply, taken_by}
 use Rattle.model.specs.Chain.{Seen, seen_reset, seen_asking, seen_departing}
 use Rattle.store.specs.Promised.{NewGives, OpenGives, OfferGives, DepartGives}
 use Rattle.store.specs.StoreCalls.{StoreCall, resetting, opening, offering, departing, WithStore, with_store, lent, back, Packet, put_out}
-use Rattle.store.specs.declared.Site.{Site}
+use Rattle.store.specs.Site.{Site}
 use Rattle.model.specs.declared.Outcome.{Outcome}
 use Rattle.model.specs.declared.Reply.{Reply}
 

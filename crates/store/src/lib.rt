@@ -2,10 +2,12 @@
 // calls drive it. The store is the caller's, and is lent to each call.
 #![tactic(auto)]
 
+ghost use Rattle.store.specs.Site.{Site as Parts};
 ghost use Rattle.store.specs.Promised.{SoundSite, NewGives, OpenGives, OfferGives, DepartGives};
 
 use model::{Outcome, Refusal, Reply};
 use order::State;
+use std::marker::Model;
 
 mod bytes;
 pub mod lengths;
@@ -18,6 +20,17 @@ pub const STORE_LENGTH: usize = 65_536;
 #[derive(Clone, Copy)]
 pub struct Site {
     order: State,
+}
+
+// Contracts see what it holds. Every site is one that calls gave.
+impl Model for Site {
+    ghost Value = { Parts };
+
+    ghost view = { λ s. record { order = s.order } };
+
+    ghost invariant = { λ s. SoundSite (record { order = s.order }) };
+
+    ghost inverse = { λ s. record { order = s.order } };
 }
 
 impl Site {
@@ -36,7 +49,6 @@ impl Site {
     }
 
     pub fn open(self, f: usize, weight: usize) -> Outcome<Site, Result<(), Refusal>>
-        requires { SoundSite self }
         ensures { OpenGives self f weight result }
     {
         let Outcome { state, reply } = self.order.open(f, weight);
@@ -53,16 +65,16 @@ impl Site {
         packet: &[u8],
         store: &mut [u8],
     ) -> Outcome<Site, Result<(), Refusal>>
-        requires { SoundSite self }
         ensures { OfferGives self f packet.now store.old store.new result }
     {
+        let order = self.order;
         if let Err(refusal) = lengths::may_offer(store) {
             return Outcome {
                 state: self,
                 reply: Err(refusal),
             };
         }
-        let Outcome { state, reply } = self.order.offer(f, packet.len());
+        let Outcome { state, reply } = order.offer(f, packet.len());
         let order = state;
         match reply {
             Ok(place) => {
@@ -81,16 +93,16 @@ impl Site {
 
     // Copies the departing packet's bytes to the start of the outgoing buffer.
     pub fn depart(self, store: &[u8], out: &mut [u8]) -> Outcome<Site, Reply>
-        requires { SoundSite self }
         ensures { DepartGives self store.now out.old out.new result }
     {
+        let order = self.order;
         if let Err(refusal) = lengths::may_depart(store, out) {
             return Outcome {
                 state: self,
                 reply: Reply::Refused(refusal),
             };
         }
-        let Outcome { state, reply } = self.order.depart();
+        let Outcome { state, reply } = order.depart();
         // Where nothing departs the size is 0, and nothing is copied: a branch on the reply here would cost a copy of the site.
         let from = reply.from;
         slots::read(store, from.flow, from.slot, from.size, out);

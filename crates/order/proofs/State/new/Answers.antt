@@ -10,3 +10,7 @@ use Rattle.order.proofs.State.new.Goals as goal
 pub returns : goal.returns
 unfolding new_scheduler cells packed encode_flow encode bytes_of joined digits
 returns c = new_gives
+
+pub invariant_of-result : goal.invariant_of-result
+unfolding new_scheduler cells packed encode_flow encode bytes_of joined digits
+invariant_of-result c = new_gives.sound

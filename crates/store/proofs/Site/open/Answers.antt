@@ -4,5 +4,5 @@ use Rattle.store.proofs.Site.open.Goals as goal
 
 pub returns : goal.returns
 returns c =
-    open_law c.args.self c.args.f c.args.weight
-    c.open-reply.result c.open-reply.ensures
+    rw (← c.self.view_is)
+    (open_law (record { order = c.self.inside.order }) c.args.f c.args.weight c.open-state.result c.open-state.ensures)
