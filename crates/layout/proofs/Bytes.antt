@@ -1,16 +1,16 @@
--- A number is what its digits give back, where there are enough of them. Then what the code does byte by byte: the sum of those that it reads, and the
--- stores of those that it writes.
+-- A number is what its digits give back, where there are enough of them. Then what the code does: the sum of the bytes that it reads, the stores of those
+-- that it writes, and the library's conversions.
 use Prim.Native.Nat.{ℕ, zero, suc, ◌+◌, ◌*◌, ◌/◌, ◌%◌, ◌^◌, ◌≤◌, ◌<◌}
-use mathlib.Core.Path.{◌≡◌, refl, sym, ap, ◌∙◌}
-use mathlib.Core.List.{List, [], ◌∷◌, ◌++◌}
+use mathlib.Core.Path.{◌≡◌, refl, sym, ap, ap₂, ◌∙◌}
+use mathlib.Core.List.{List, [], ◌∷◌, ◌++◌, append_assoc}
 use native.Mathlib.Omega.{arith}
-use native.Mathlib.Numerals.{add-one}
-use native.Mathlib.Nat.{add-zero, add-suc, mul-suc, mul_assoc, mul-le-mul_left, pow-succ', pow-suc, pow-le-pow_right}
-use mir.Syntax.{w8, w64}
-use mir.Val.{Fits}
+use native.Mathlib.Nat.{add-zero, add-suc, mul_assoc, pow-succ', pow-suc, div-div-eq-div-mul}
+use mir.Syntax.{w64}
 use lib.ListN.{length, get_or, set, take, drop, length-drop}
-use lib.Seq.{sets, drop-cons, get_or-drop, length-take-le, take-suc}
+use lib.Seq.{sets, sets-eq, drop-cons, get_or-drop, length-take-le, take-suc, take_all, drop-drop}
+use Rattle.std.specs.Int.{from_le_bytes, to_le_bytes, bytes_low_first}
 use Rattle.layout.specs.Bytes.{byte_limit, digits, number, sizes_room, with_sizes}
+use borrow.Rule.Slice.PartMut.{put_mid}
 
 pub digits_length : (k n : ℕ) → length (digits k n) ≡ k
 unfolding digits
@@ -52,17 +52,6 @@ module _ (l : List ℕ) (at : ℕ) where
       ∙ sym (number_joined (take (suc k) rest) next)
       ∙ ap number (sym (take-suc rest (suc k) 0 (omega arith)))
 
-  -- Each byte adds less than its place is worth at the next.
-  sum_small : ((i : ℕ) → Fits w8 (get_or l i 0)) → (k : ℕ) → summed l at k < byte_limit ^ suc k
-  sum_small bytes zero = (bytes at).fits
-  sum_small bytes (suc k) =
-      let worth = byte_limit ^ suc k in
-      let b = get_or l (at + suc k) 0 in
-      omega (arith, sum_small bytes k, pow-suc byte_limit (suc k), mul-suc worth b, mul-le-mul_left {m = suc b} {n = byte_limit} worth (bytes (at + suc k)).fits)
-
-  pub sum_fits : ((i : ℕ) → Fits w8 (get_or l i 0)) → (k : ℕ) → k < sizes_room → Fits w64 (summed l at k)
-  sum_fits bytes k h = omega (arith, sum_small bytes k, pow-le-pow_right {n = byte_limit} (omega arith) {i = suc k} {j = sizes_room} h)
-
 -- Stores from the i-th place behind a place on.
 abbrev pub stored : List ℕ → ℕ → ℕ → List ℕ → List ℕ
 stored l at i [] = l
@@ -72,8 +61,32 @@ pub stored_is_sets : (l : List ℕ) (at i : ℕ) (vs : List ℕ) → stored l at
 stored_is_sets l at i [] = refl
 stored_is_sets l at i (v ∷ vs) = stored_is_sets (set l (at + i) v) at (suc i) vs ∙ ap (λ (n : ℕ). sets (set l (at + i) v) n vs) (add-suc at i)
 
-pub digits_stored : (l : List ℕ) (at n : ℕ) → stored (set l at (n % byte_limit)) at 1 (digits 7 (n / byte_limit)) ≡ with_sizes l at n
-unfolding with_sizes digits
-digits_stored l at n =
-    let first = set l at (n % byte_limit) in
-    stored_is_sets first at 1 (digits 7 (n / byte_limit)) ∙ ap (λ (k : ℕ). sets first k (digits 7 (n / byte_limit))) (add-one at)
+-- The library's conversions of eight bytes are the same number and the same digits.
+pub number_converted : (bytes : List ℕ) → length bytes ≡ sizes_room → from_le_bytes w64 bytes ≡ number bytes
+number_converted bytes long =
+    omega (arith, sum_is_number bytes 0 7 (omega arith), ap number (take_all sizes_room bytes (omega arith)))
+
+digits_above : (i k n : ℕ) → bytes_low_first (suc i) k n ≡ digits k (n / byte_limit ^ suc i)
+unfolding digits
+digits_above i zero n = refl
+digits_above i (suc k) n =
+    let here = byte_limit ^ suc i in
+    let next : n / byte_limit ^ suc (suc i) ≡ n / here / byte_limit =
+    ap (λ (p : ℕ). n / p) (pow-suc byte_limit (suc i)) ∙ sym (div-div-eq-div-mul n here byte_limit) in
+    ap (λ (l : List ℕ). n / here % byte_limit ∷ l) (digits_above (suc i) k n ∙ ap (digits k) next)
+
+pub digits_converted : (n : ℕ) → to_le_bytes w64 n ≡ digits sizes_room n
+unfolding digits
+digits_converted n = ap (λ (l : List ℕ). n % byte_limit ∷ l) (digits_above 0 7 n)
+
+-- Digits that are copied over a part of the bytes are stored there.
+pub digits_copied : (l : List ℕ) (at n : ℕ) {k : ℕ} {bytes : List ℕ} → k ≡ sizes_room → bytes ≡ digits sizes_room n → at + sizes_room ≤ length l
+    → put_mid at k l bytes ≡ with_sizes l at n
+unfolding with_sizes
+digits_copied l at n same e h =
+    let bytes = digits sizes_room n in
+    let long = digits_length sizes_room n in
+    ap₂ (λ (w : ℕ) (q : List ℕ). take at l ++ (q ++ drop w (drop at l))) (same ∙ sym long) e
+    ∙ ap (λ (behind : List ℕ). take at l ++ (bytes ++ behind)) (drop-drop (length bytes) at l)
+    ∙ sym (append_assoc (take at l) bytes (drop (at + length bytes) l))
+    ∙ sym (sets-eq bytes l at (omega arith))

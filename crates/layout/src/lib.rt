@@ -24,46 +24,27 @@ pub const LINE_START: usize = NUMBERS_START + NUMBERS * FLOW_LIMIT;
 // How many bytes there are.
 pub const CELLS: usize = LINE_START + LINE_ROOM;
 
-// The number whose digits lie from a place on, the lowest first. One sum of all eight is one load.
+// The number whose digits lie from a place on, the lowest first.
 fn number_at(cells: &[u8], at: usize) -> u64
     requires { at + sizes_room ≤ length cells.now }
     ensures { result ≡ number (take sizes_room (drop at cells.now)) }
 {
-    cells[at] as u64
-        + 256 * cells[at + 1] as u64
-        + 65536 * cells[at + 2] as u64
-        + 16777216 * cells[at + 3] as u64
-        + 4294967296 * cells[at + 4] as u64
-        + 1099511627776 * cells[at + 5] as u64
-        + 281474976710656 * cells[at + 6] as u64
-        + 72057594037927936 * cells[at + 7] as u64
+    let mut digits = [0; SIZES];
+    digits.copy_from_slice(&cells[at..at + SIZES]);
+    u64::from_le_bytes(digits)
 }
 
-// Stores a number's digits from a place on, the lowest first. One quotient after the other is one store.
+// Stores a number's digits from a place on, the lowest first.
 fn put_number(cells: &mut [u8], at: usize, n: u64)
     requires { at + sizes_room ≤ length cells.old }
     ensures { cells.new ≡ with_sizes cells.old at n }
 {
-    cells[at] = (n % 256) as u8;
-    let n1 = n / 256;
-    cells[at + 1] = (n1 % 256) as u8;
-    let n2 = n1 / 256;
-    cells[at + 2] = (n2 % 256) as u8;
-    let n3 = n2 / 256;
-    cells[at + 3] = (n3 % 256) as u8;
-    let n4 = n3 / 256;
-    cells[at + 4] = (n4 % 256) as u8;
-    let n5 = n4 / 256;
-    cells[at + 5] = (n5 % 256) as u8;
-    let n6 = n5 / 256;
-    cells[at + 6] = (n6 % 256) as u8;
-    let n7 = n6 / 256;
-    cells[at + 7] = (n7 % 256) as u8;
+    cells[at..at + SIZES].copy_from_slice(&n.to_le_bytes());
 }
 
 pub fn flow_at(cells: &[u8], f: usize) -> FlowCell
-    requires cells_len { length cells.now ≡ cells_length }
-    requires f_lt_flow_limit { f < flow_limit }
+    requires all_cells { length cells.now ≡ cells_length }
+    requires flow_in_range { f < flow_limit }
     ensures { result ≡ flow_in cells.now f }
 {
     let at = NUMBERS_START + NUMBERS * f;
@@ -73,15 +54,15 @@ pub fn flow_at(cells: &[u8], f: usize) -> FlowCell
         surplus: cells[at + 1] as u16,
         slot: cells[at + 2],
         waiting: cells[at + 3],
-        sizes: sizes,
+        sizes,
     }
 }
 
 // Stores a flow whose weight lies there already.
 pub fn put_flow(cells: &mut [u8], f: usize, x: FlowCell)
-    requires cells_len { length cells.old ≡ cells_length }
-    requires f_lt_flow_limit { f < flow_limit }
-    requires surplus_lt_byte_limit { x.surplus < byte_limit }
+    requires all_cells { length cells.old ≡ cells_length }
+    requires flow_in_range { f < flow_limit }
+    requires surplus_fits { x.surplus < byte_limit }
     ensures { cells.new ≡ with_flow cells.old f x }
 {
     put_number(cells, SIZES * f, x.sizes);
@@ -93,9 +74,10 @@ pub fn put_flow(cells: &mut [u8], f: usize, x: FlowCell)
 
 // Stores a flow with its weight.
 pub fn put_opened(cells: &mut [u8], f: usize, x: FlowCell)
-    requires cells_len { length cells.old ≡ cells_length }
-    requires f_lt_flow_limit { f < flow_limit }
-    requires weight_lt_byte_limit { (x.weight < byte_limit) × (x.surplus < byte_limit) }
+    requires all_cells { length cells.old ≡ cells_length }
+    requires flow_in_range { f < flow_limit }
+    requires weight_fits { x.weight < byte_limit }
+    requires surplus_fits { x.surplus < byte_limit }
     ensures { cells.new ≡ with_opened cells.old f x }
 {
     let at = NUMBERS_START + NUMBERS * f;

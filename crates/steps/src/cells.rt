@@ -2,14 +2,12 @@
 ghost use Rattle.std.specs.Prelude.{◌≡◌, ◌++◌, length, drop, ◌-◌};
 ghost use Rattle.steps.specs.Cells.{line_room};
 
-use model::FLOW_LIMIT;
+use crate::LINE_ROOM;
 
 // Takes the first byte out: the others move down, and the last stays where it is as well. How many move is a constant, so it is one move of whole words.
 pub fn shift(cells: &mut [u8])
     requires { length cells.old ≡ line_room }
     ensures { cells.new ≡ drop 1 cells.old ++ drop (length cells.old - 1) cells.old }
 {
-    for i in 0..FLOW_LIMIT {
-        cells[i] = cells[i + 1];
-    }
+    cells.copy_within(1..LINE_ROOM, 0);
 }

@@ -8,11 +8,11 @@ use Rattle.order.proofs.in_place.depart.Goals as goal
 pub bounds-cells-384 : goal.bounds-cells-384
 bounds-cells-384 c = omega (arith, bytes_count (state_with c.args.cells.now c.args.r.now) c.requires)
 
-pub flow_at-flow-requires-clause-cells_len : goal.flow_at-flow-requires-clause-cells_len
-flow_at-flow-requires-clause-cells_len c = bytes_count (state_with c.args.cells.now c.args.r.now) c.requires
+pub flow_at-flow-requires-clause-all_cells : goal.flow_at-flow-requires-clause-all_cells
+flow_at-flow-requires-clause-all_cells c = bytes_count (state_with c.args.cells.now c.args.r.now) c.requires
 
-pub flow_at-flow-requires-clause-f_lt_flow_limit : goal.flow_at-flow-requires-clause-f_lt_flow_limit
-flow_at-flow-requires-clause-f_lt_flow_limit c =
+pub flow_at-flow-requires-clause-flow_in_range : goal.flow_at-flow-requires-clause-flow_in_range
+flow_at-flow-requires-clause-flow_in_range c =
     let state = state_with c.args.cells.now c.args.r.now in
     at_in_reach state c.requires c.whose-at.result (whose_seen state c.requires c.whose-at.result c.whose-at.ensures)
 
@@ -27,18 +27,18 @@ visit-reply-requires c =
     let state = state_with c.args.cells.now c.args.r.now in
     lent_may_visit state c.requires c.whose-at.result (whose_seen state c.requires c.whose-at.result c.whose-at.ensures) c.flow_at-flow.result c.flow_at-flow.ensures
 
-pub put_flow-requires-clause-cells_len : goal.put_flow-requires-clause-cells_len
-put_flow-requires-clause-cells_len c =
+pub put_flow-requires-clause-all_cells : goal.put_flow-requires-clause-all_cells
+put_flow-requires-clause-all_cells c =
     let state = state_with c.args.cells.now c.args.r.now in
     (lent_may_put state c.requires c.whose-at.result (whose_seen state c.requires c.whose-at.result c.whose-at.ensures) c.flow_at-flow.result c.flow_at-flow.ensures c.visit-reply.new.r c.visit-reply.new.x c.visit-reply.result c.visit-reply.new.line c.visit-reply.ensures c.visit-reply.auto.line).0
 
-pub put_flow-requires-clause-f_lt_flow_limit : goal.put_flow-requires-clause-f_lt_flow_limit
-put_flow-requires-clause-f_lt_flow_limit c =
+pub put_flow-requires-clause-flow_in_range : goal.put_flow-requires-clause-flow_in_range
+put_flow-requires-clause-flow_in_range c =
     let state = state_with c.args.cells.now c.args.r.now in
     at_in_reach state c.requires c.whose-at.result (whose_seen state c.requires c.whose-at.result c.whose-at.ensures)
 
-pub put_flow-requires-clause-surplus_lt_byte_limit : goal.put_flow-requires-clause-surplus_lt_byte_limit
-put_flow-requires-clause-surplus_lt_byte_limit c =
+pub put_flow-requires-clause-surplus_fits : goal.put_flow-requires-clause-surplus_fits
+put_flow-requires-clause-surplus_fits c =
     let state = state_with c.args.cells.now c.args.r.now in
     (lent_may_put state c.requires c.whose-at.result (whose_seen state c.requires c.whose-at.result c.whose-at.ensures) c.flow_at-flow.result c.flow_at-flow.ensures c.visit-reply.new.r c.visit-reply.new.x c.visit-reply.result c.visit-reply.new.line c.visit-reply.ensures c.visit-reply.auto.line).1.1
 

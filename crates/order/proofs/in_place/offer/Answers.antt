@@ -6,8 +6,8 @@ use Rattle.order.proofs.StateLaws.{bytes_count}
 use Rattle.order.proofs.LentLaws.{lent_may_offer, lent_may_put_offered, lent_offered_gives, lent_offer_refused_gives}
 use Rattle.order.proofs.in_place.offer.Goals as goal
 
-pub flow_at-flow-requires-clause-cells_len : goal.flow_at-flow-requires-clause-cells_len
-flow_at-flow-requires-clause-cells_len c = bytes_count (state_with c.args.cells.now c.args.r.now) c.requires
+pub flow_at-flow-requires-clause-all_cells : goal.flow_at-flow-requires-clause-all_cells
+flow_at-flow-requires-clause-all_cells c = bytes_count (state_with c.args.cells.now c.args.r.now) c.requires
 
 pub slice_bounds-offer-count : goal.slice_bounds-offer-count
 slice_bounds-offer-count c = omega (arith, bytes_count (state_with c.args.cells.now c.args.r.now) c.requires)
@@ -30,12 +30,12 @@ returns-in_err-place c =
     rw (p.1, p.2)
     (lent_offer_refused_gives (state_with c.args.cells.now c.args.r.now) c.requires c.args.f c.index-at.result c.index-at.ensures c.flow_at-flow.result c.flow_at-flow.ensures c.args.size c.offer.new.r c.offer.new.x c.offer.new.line c.in_err-place.field-0.0 (rw (← c.in_err-place.was) c.offer.ensures))
 
-pub put_flow-requires-clause-cells_len : goal.put_flow-requires-clause-cells_len
-put_flow-requires-clause-cells_len c =
+pub put_flow-requires-clause-all_cells : goal.put_flow-requires-clause-all_cells
+put_flow-requires-clause-all_cells c =
     (lent_may_put_offered (state_with c.args.cells.now c.args.r.now) c.requires c.args.f c.index-at.result c.index-at.ensures c.flow_at-flow.result c.flow_at-flow.ensures c.args.size c.offer.new.r c.offer.new.x c.offer.new.line c.offer.result c.offer.ensures c.offer.auto.line).0
 
-pub put_flow-requires-clause-surplus_lt_byte_limit : goal.put_flow-requires-clause-surplus_lt_byte_limit
-put_flow-requires-clause-surplus_lt_byte_limit c =
+pub put_flow-requires-clause-surplus_fits : goal.put_flow-requires-clause-surplus_fits
+put_flow-requires-clause-surplus_fits c =
     (lent_may_put_offered (state_with c.args.cells.now c.args.r.now) c.requires c.args.f c.index-at.result c.index-at.ensures c.flow_at-flow.result c.flow_at-flow.ensures c.args.size c.offer.new.r c.offer.new.x c.offer.new.line c.offer.result c.offer.ensures c.offer.auto.line).1.1
 
 pub returns : goal.returns

@@ -5,8 +5,8 @@ use Rattle.order.proofs.StateLaws.{bytes_count}
 use Rattle.order.proofs.LentLaws.{lent_ready, may_put_opened, lent_opened_gives, lent_open_refused_gives}
 use Rattle.order.proofs.in_place.open.Goals as goal
 
-pub flow_at-flow-requires-clause-cells_len : goal.flow_at-flow-requires-clause-cells_len
-flow_at-flow-requires-clause-cells_len c = bytes_count (state_with c.args.cells.now c.args.r) c.requires
+pub flow_at-flow-requires-clause-all_cells : goal.flow_at-flow-requires-clause-all_cells
+flow_at-flow-requires-clause-all_cells c = bytes_count (state_with c.args.cells.now c.args.r) c.requires
 
 pub open-requires : goal.open-requires
 open-requires c = lent_ready (state_with c.args.cells.now c.args.r) c.requires c.args.f c.index-at.result c.index-at.ensures c.flow_at-flow.result c.flow_at-flow.ensures
@@ -17,12 +17,16 @@ returns-in_err-open c =
     rw (p.1, p.2)
     (lent_open_refused_gives (state_with c.args.cells.now c.args.r) c.requires c.args.f c.index-at.result c.index-at.ensures c.flow_at-flow.result c.flow_at-flow.ensures c.args.weight c.open.new.x c.in_err-open.field-0.0 (rw (← c.in_err-open.was) c.open.ensures))
 
-pub put_opened-requires-clause-cells_len : goal.put_opened-requires-clause-cells_len
-put_opened-requires-clause-cells_len c = bytes_count (state_with c.args.cells.now c.args.r) c.requires
+pub put_opened-requires-clause-all_cells : goal.put_opened-requires-clause-all_cells
+put_opened-requires-clause-all_cells c = bytes_count (state_with c.args.cells.now c.args.r) c.requires
 
-pub put_opened-requires-clause-weight_lt_byte_limit : goal.put_opened-requires-clause-weight_lt_byte_limit
-put_opened-requires-clause-weight_lt_byte_limit c =
-    (may_put_opened (state_with c.args.cells.now c.args.r) c.requires c.args.f c.index-at.result c.index-at.ensures c.flow_at-flow.result c.flow_at-flow.ensures c.args.weight c.open.new.x c.open.result c.open.ensures).1.1
+pub put_opened-requires-clause-weight_fits : goal.put_opened-requires-clause-weight_fits
+put_opened-requires-clause-weight_fits c =
+    (may_put_opened (state_with c.args.cells.now c.args.r) c.requires c.args.f c.index-at.result c.index-at.ensures c.flow_at-flow.result c.flow_at-flow.ensures c.args.weight c.open.new.x c.open.result c.open.ensures).1.1.0
+
+pub put_opened-requires-clause-surplus_fits : goal.put_opened-requires-clause-surplus_fits
+put_opened-requires-clause-surplus_fits c =
+    (may_put_opened (state_with c.args.cells.now c.args.r) c.requires c.args.f c.index-at.result c.index-at.ensures c.flow_at-flow.result c.flow_at-flow.ensures c.args.weight c.open.new.x c.open.result c.open.ensures).1.1.1
 
 pub returns : goal.returns
 returns c =

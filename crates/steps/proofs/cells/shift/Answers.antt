@@ -1,18 +1,16 @@
--- The loop moves the bytes down one by one.
-use Prim.Native.Nat.{ℕ, ◌+◌}
-use mathlib.Core.Path.{ap, ◌∙◌}
+-- All but the first are moved, and the last is where it was.
+use Prim.Native.Nat.{ℕ, ◌-◌}
+use mathlib.Core.Path.{◌≡◌, ap₂, ◌∙◌}
+use mathlib.Core.List.{List, ◌++◌}
 use native.Mathlib.Omega.{arith}
-use mathlib.Core.List.{List}
-use lib.ListN.{set, get_or, length-set}
-use Rattle.steps.proofs.Shifting.{one_more_moves}
+use lib.ListN.{length, take, drop, length-drop}
+use lib.Seq.{take_all}
+use Rattle.model.specs.Limits.{flow_limit}
 use Rattle.steps.proofs.cells.shift.Goals as goal
 
-pub loop-i-preserved : goal.loop-i-preserved
-loop-i-preserved c =
-    let cells₀ = c.args.cells.now in
-    let i = c.loop-i.i in
-    let inv = c.loop-i.invariant in (
-      inv.0,
-      simp length-set inv.1,
-      ap (λ (l : List ℕ). set l i (get_or l (i + 1) 0)) inv.2 ∙ one_more_moves cells₀ i (omega arith) (omega arith),
-    )
+pub returns : goal.returns
+returns c =
+    let cells = c.args.cells.now in
+    let moved : take flow_limit (drop 1 cells) ≡ drop 1 cells = take_all flow_limit (drop 1 cells) (omega (arith, length-drop 1 cells)) in
+    let last : flow_limit ≡ length cells - 1 = omega arith in
+    c.copy_within.ensures.after ∙ ap₂ (λ (l : List ℕ) (n : ℕ). l ++ drop n cells) moved last
