@@ -3,28 +3,21 @@
 
 ghost use Rattle.intake.specs.Intake.{Within};
 
+use std::io;
 use std::io::Read;
 
-// The bytes that were read lie at the start of a buffer, so many.
-#[derive(Clone, Copy)]
-pub enum Intake {
-    Bytes(usize),
-    Failed,
-}
-
-// Reads until the source ends or the buffer is full.
-pub fn whole<R: Read>(source: &mut R, buffer: &mut [u8]) -> Intake
+// Reads until the source ends or the buffer is full. The bytes that were read lie at the start of the buffer, so many.
+pub fn whole<R: Read>(source: &mut R, buffer: &mut [u8]) -> io::Result<usize>
     ensures { Within result buffer.new }
 {
     let mut at = 0;
+    // no plainer: std's `read_to_end` wants the heap, and its `read_exact` tells no short source from a failed read
     while at < buffer.len() {
-        let Ok(more) = source.read(&mut buffer[at..]) else {
-            return Intake::Failed;
-        };
+        let more = source.read(&mut buffer[at..])?;
         if more == 0 {
-            return Intake::Bytes(at);
+            break;
         }
         at += more;
     }
-    Intake::Bytes(at)
+    Ok(at)
 }

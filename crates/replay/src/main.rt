@@ -1,7 +1,6 @@
 // The replay program: event lines from standard input, the transcript to standard output. A failed read or write ends it quietly.
 #![tactic(auto)]
 
-use intake::Intake;
 use play::{INPUT_LIMIT, OUTPUT_LIMIT};
 use std::io;
 use std::io::Write;
@@ -9,7 +8,7 @@ use std::io::Write;
 fn main(rt: HostRuntime) {
     // one byte more than an input may have, to find one that is too long
     let mut input = [0u8; INPUT_LIMIT + 1];
-    let Intake::Bytes(length) = intake::whole(&mut rt.stdin(), &mut input) else {
+    let Ok(length) = intake::whole(&mut rt.stdin(), &mut input) else {
         return;
     };
     // room for any transcript

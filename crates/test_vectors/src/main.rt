@@ -2,9 +2,9 @@
 // `reference/vectors.sh` records them, with a program that shares no code with this one.
 #![tactic(auto)]
 
-ghost use Rattle.intake.specs.Intake.{Within};
+ghost use Rattle.std.specs.Prelude.{IfSome};
+ghost use Rattle.intake.specs.Intake.{LieAtStart};
 
-use intake::Intake;
 use play::{INPUT_LIMIT, OUTPUT_LIMIT};
 use std::env::{Env, FillError};
 use std::fs::File;
@@ -32,46 +32,35 @@ fn main(rt: HostRuntime) {
 fn compare<R: Files + Print>(rt: &R, name: &[u8]) {
     let mut out = io::writer(rt);
     let _ = out.write_all(name);
-    if agrees(rt, name) {
-        let _ = out.write_all(b" same\n");
-    } else {
-        let _ = out.write_all(b" differs\n");
-    }
+    // a file that cannot be read differs
+    let _ = match agrees(rt, name) {
+        Some(true) => out.write_all(b" same\n"),
+        _ => out.write_all(b" differs\n"),
+    };
 }
 
-fn agrees<R: Files>(rt: &R, name: &[u8]) -> bool {
+fn agrees<R: Files>(rt: &R, name: &[u8]) -> Option<bool> {
     // one byte more than an input may have, to find one that is too long
     let mut input = [0u8; INPUT_LIMIT + 1];
-    let Intake::Bytes(length) = contents(rt, name, b".in", &mut input) else {
-        return false;
-    };
+    let length = contents(rt, name, b".in", &mut input)?;
     // one byte more than a transcript may have, to find an output that is longer
     let mut recorded = [0u8; OUTPUT_LIMIT + 1];
-    let Intake::Bytes(end) = contents(rt, name, b".out", &mut recorded) else {
-        return false;
-    };
+    let end = contents(rt, name, b".out", &mut recorded)?;
     let mut out = [0u8; OUTPUT_LIMIT];
     let written = play::transcribe(&input[..length], &mut out);
-    check::same(&out[..written], &recorded[..end])
+    Some(check::same(&out[..written], &recorded[..end]))
 }
 
-// What the file of this name and ending has.
-fn contents<R: Files>(rt: &R, name: &[u8], ending: &[u8], buffer: &mut [u8]) -> Intake
-    ensures { Within result buffer.new }
+// How many bytes the file of this name and ending has, read into the buffer.
+fn contents<R: Files>(rt: &R, name: &[u8], ending: &[u8], buffer: &mut [u8]) -> Option<usize>
+    ensures { IfSome result (λ n. LieAtStart n buffer.new) }
 {
     let mut path = [0u8; PATH_LIMIT];
     let dot = name.len();
     let end = dot + ending.len();
-    if path.len() < end {
-        return Intake::Failed;
-    }
-    path[..dot].copy_from_slice(name);
-    path[dot..end].copy_from_slice(ending);
-    let Ok(path) = str::from_utf8(&path[..end]) else {
-        return Intake::Failed;
-    };
-    let Ok(mut file) = File::open(rt, path) else {
-        return Intake::Failed;
-    };
-    intake::whole(&mut file, buffer)
+    path.get_mut(..dot)?.copy_from_slice(name);
+    path.get_mut(dot..end)?.copy_from_slice(ending);
+    let path = str::from_utf8(&path[..end]).ok()?;
+    let mut file = File::open(rt, path).ok()?;
+    intake::whole(&mut file, buffer).ok()
 }
