@@ -16,6 +16,7 @@ use mathlib.Core.List.{List, [], ◌∷◌, ◌++◌}
 use mathlib.Core.Path.{◌≡◌, refl, sym, ap, subst}
 use lib.ListN.{length, drop, length-append}
 use lib.Dec.{leb, ltb, eqb}
+use Rattle.std.proofs.Common.{Ok, Err}
 use Rattle.model.specs.Limits.{flow_limit, weight_limit, size_limit, queue_limit}
 use Rattle.model.specs.Model.{Flow, Scheduler, flow_at, new_scheduler}
 use Rattle.model.specs.Calls.{Departures, unless_refused, open_refusal, offer_refusal, opened, offered, departed, and_then, departures}
@@ -39,9 +40,7 @@ use Rattle.print.proofs.PageLaws.{printed_whole}
 use Rattle.play.specs.Script.{Script, script_from, script_of}
 use Rattle.play.specs.Story.{Report, bad, refused, sent, idle, Replay, Happening, new_replay, answered, numbered, departing, sending, happening, story}
 use Rattle.play.specs.Transcript.{input_limit, output_limit, reply_text, line_of, text_of, transcript}
-use Rattle.play.specs.Log.{departures_in, ending_in, departures_of, ending_of, log_of, log_limit}
-use Rattle.play.specs.declared.Ending.{Ending}
-use Rattle.play.specs.declared.Ending.TheVariants.{Whole, BadLine}
+use Rattle.play.specs.Log.{Ending, departures_in, ending_in, departures_of, ending_of, log_of, log_limit}
 use Rattle.play.proofs.LogLaws.{departures_append, log_length, counts_departures, goes_on}
 use Rattle.play.proofs.PlayLaws.{too_long_reports, short_reports}
 use Rattle.play.proofs.ScriptLaws.{ends, reads, spoils}
@@ -245,8 +244,8 @@ event_pays r line (Send count) R l f = send_pays r count R f
 
 -- the line that an ending tells
 abbrev pub line_told : Ending → ℕ
-line_told Whole = 0
-line_told (BadLine line) = line
+line_told (Ok x) = 0
+line_told (Err bad_line) = bad_line.0
 
 -- What is reported from a place on is short, its departures with those before it are few, and it ends in a line of the input.
 record Bound (input : List ℕ) (at : ℕ) (r : Replay) (l : List Report) : Type 0 where

@@ -9,6 +9,7 @@ use denote.Ref.{Bor}
 use lib.Dec.{leb}
 use lib.ListN.{length}
 use borrow.Author.Tests.{lt-ltb, le-ltb, leb-true, leb-false}
+use Rattle.std.proofs.Common.{Ok, Err}
 use Rattle.model.specs.Model.{Scheduler}
 use Rattle.model.proofs.Keeps.{new_keeps}
 use Rattle.lines.specs.Line.{line_at}
@@ -24,14 +25,12 @@ use Rattle.order.specs.Promised.{NewGives}
 use Rattle.order.specs.State.{State}
 use Rattle.order.proofs.StateLaws.{seen_as}
 use Rattle.play.specs.Course.{replay_of, asked, Desk, desk, reported, Goes, Tells}
-use Rattle.play.specs.Log.{departures_in, ending_in, departures_of, ending_of, log_of}
+use Rattle.play.specs.Log.{Ending, departures_in, ending_in, departures_of, ending_of, log_of}
 use Rattle.print.specs.Page.{page, put}
 use Rattle.play.specs.Script.{script_from, script_of}
 use Rattle.play.specs.Story.{Report, bad, Replay, Happening, new_replay, happening, story}
 use Rattle.play.specs.Transcript.{input_limit, line_of, text_of, reports, transcript}
 use Rattle.play.specs.declared.Course.{Course}
-use Rattle.play.specs.declared.Ending.{Ending}
-use Rattle.play.specs.declared.Ending.TheVariants.{Whole, BadLine}
 use Rattle.play.specs.declared.Told.{Told}
 use Rattle.print.proofs.PageLaws.{printed}
 use Rattle.play.proofs.LogLaws.{reported_append, nothing_reported, bad_reported, goes_on}
@@ -62,7 +61,7 @@ tells input out log r out' log' e f =
     }
 
 pub too_long_tells : (input out log out' : List ℕ) (past : ℕ) → input_limit < length input → page out' past ≡ put (page out 0) (line_of (bad 0))
-    → Tells input out log (record { written = past; noted = 0; ending = BadLine 0 }) out' log
+    → Tells input out log (record { written = past; noted = 0; ending = Err (record { 0 = 0 }) }) out' log
 unfolding ending_of ending_in
 too_long_tells input out log out' past h e =
     tells input out log _ out' log
@@ -119,7 +118,7 @@ module _ {goal : Desk} {end : Ending} {input out log : List ℕ} {c : Course} {r
   leads : {l : List Report} → story (replay_of c) line (rest input reader.at) ≡ l → (reported (desk out c.past log c.noted) l ≡ goal) × (ending_in l ≡ end)
   leads e = (ap (reported (desk out c.past log c.noted)) (sym e) ∙ h.reports, ap ending_in (sym e) ∙ h.ends)
 
-  pub plays_end : at_end ≡ true → (desk out c.past log c.noted ≡ goal) × (Whole ≡ end)
+  pub plays_end : at_end ≡ true → (desk out c.past log c.noted ≡ goal) × (Ok tt ≡ end)
   unfolding story ending_in
   plays_end e =
       let past : length input ≤ reader.at = rw h.reads at (leb-true (length reader.input.now) reader.at (sym t ∙ e)) in
@@ -131,7 +130,7 @@ module _ {goal : Desk} {end : Ending} {input out log : List ℕ} {c : Course} {r
     within = rw h.reads at (leb-false (length reader.input.now) reader.at (sym t ∙ more))
 
     pub plays_bad : {out' : List ℕ} {past' : ℕ} → taken ≡ None → page out' past' ≡ put (page out c.past) (line_of (bad line))
-        → (desk out' past' log c.noted ≡ goal) × (BadLine line ≡ end)
+        → (desk out' past' log c.noted ≡ goal) × (Err (record { 0 = line }) ≡ end)
     unfolding story ending_in
     plays_bad e f =
         let bad_there : line_at input reader.at ≡ None = rw h.reads at (nothing_taken reader n e) in

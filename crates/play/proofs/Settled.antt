@@ -6,7 +6,7 @@ use Rattle.print.specs.Page.{Printed, PrintedWhole}
 use Rattle.play.specs.Transcript.{transcript}
 use Rattle.play.specs.Course.{Tells}
 use Rattle.play.specs.declared.Told.{Told}
-use Rattle.play.specs.declared.Ending.{Ending}
+use Rattle.play.specs.Log.{Ending}
 
 module _ (input : List ℕ) {before one two : List ℕ} {m n : ℕ} where
   pub play_settled : Printed (transcript input) before one m → Printed (transcript input) before two n → (one ≡ two) × (m ≡ n)

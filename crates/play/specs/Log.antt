@@ -1,11 +1,10 @@
 -- The departures of a replay, which a log notes as numbers, and how the replay ended.
-use Rattle.std.specs.Prelude.{ℕ, ◌/◌, ◌<◌, ◌≤◌, List, [], ◌∷◌}
+use Rattle.std.specs.Prelude.{ℕ, ◌/◌, ◌<◌, ◌≤◌, List, [], ◌∷◌, Result, Ok, Err}
 use Rattle.model.specs.Limits.{flow_limit, size_limit}
 use Rattle.model.specs.declared.Sent.{Sent}
 use Rattle.play.specs.Story.{Report, bad, refused, sent, idle}
 use Rattle.play.specs.Transcript.{input_limit, reports}
-use Rattle.play.specs.declared.Ending.{Ending}
-use Rattle.play.specs.declared.Ending.TheVariants.{Whole, BadLine}
+use Rattle.play.specs.declared.BadLine.{BadLine}
 
 -- The departures among reports, in order.
 unfoldable pub departures_in : List Report → List Sent
@@ -15,10 +14,14 @@ departures_in (refused k line ∷ more) = departures_in more
 departures_in (sent n d ∷ more) = d ∷ departures_in more
 departures_in (idle n ∷ more) = departures_in more
 
+-- How a replay ends: at the end of its input, or in a bad line.
+abbrev pub Ending : Type 0
+Ending = Result (Unit {0}) BadLine
+
 -- A bad line ends a replay; without one it comes to the end of the input.
 unfoldable pub ending_in : List Report → Ending
-ending_in [] = Whole
-ending_in (bad line ∷ more) = BadLine line
+ending_in [] = Ok tt
+ending_in (bad line ∷ more) = Err (record { 0 = line })
 ending_in (refused k line ∷ more) = ending_in more
 ending_in (sent n d ∷ more) = ending_in more
 ending_in (idle n ∷ more) = ending_in more

@@ -24,19 +24,17 @@ pub const OUTPUT_LIMIT: usize = 4 * INPUT_LIMIT;
 // A log of so many numbers has room for the departures of any input.
 pub const LOG_LIMIT: usize = INPUT_LIMIT / 8;
 
-// How a replay ended: at the end of its input, or in a bad line, of which this is the number.
-#[derive(Clone, Copy)]
-pub enum Ending {
-    Whole,
-    BadLine(usize),
-}
+// A line that is none of the three, by its number; 0 where the input is too long.
+#[derive(Clone, Copy, Debug, PartialEq, Eq)]
+pub struct BadLine(pub usize);
 
-// What a replay gives beside what it put into its buffers: how many bytes it printed, how many numbers it noted, and how it ended.
+// What a replay gives beside what it put into its buffers: how many bytes it printed, how many numbers it noted, and how it ended: at the end of its input,
+// or in a bad line.
 #[derive(Clone, Copy)]
 pub struct Told {
     pub written: usize,
     pub noted: usize,
-    pub ending: Ending,
+    pub ending: Result<(), BadLine>,
 }
 
 // How far a replay has come: the scheduler, the departures so far, and the places up to which the buffer and the log are written.
@@ -74,7 +72,7 @@ pub fn tell(input: &[u8], out: &mut [u8], log: &mut [u16]) -> Told
         return Told {
             written,
             noted: 0,
-            ending: Ending::BadLine(0),
+            ending: Err(BadLine(0)),
         };
     }
     replay(input, out, log)
@@ -101,7 +99,7 @@ fn replay(input: &[u8], out: &mut [u8], log: &mut [u16]) -> Told
             return Told {
                 written,
                 noted: course.noted,
-                ending: Ending::BadLine(line),
+                ending: Err(BadLine(line)),
             };
         };
         course = run(out, log, course, event, line);
@@ -110,7 +108,7 @@ fn replay(input: &[u8], out: &mut [u8], log: &mut [u16]) -> Told
     Told {
         written: course.past,
         noted: course.noted,
-        ending: Ending::Whole,
+        ending: Ok(()),
     }
 }
 
