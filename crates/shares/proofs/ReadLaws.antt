@@ -1,14 +1,16 @@
 -- The reading of a log, departure by departure: so many are counted, and the rest is still to be read.
 --     reads_begin   nothing is counted yet
+--     departure     the pair of numbers that the log has of one
 --     next          what holds where a departure is to be read
 --     reads_on      one departure more is counted
 --     reads_end     all are
-use Prim.Native.Nat.{ℕ, ◌+◌, ◌*◌, ◌^◌, ◌<◌, ◌≤◌}
+use Prim.Native.Nat.{ℕ, zero, suc, ◌+◌, ◌*◌, ◌/◌, ◌^◌, ◌<◌, ◌≤◌}
 use native.Mathlib.Omega.{arith}
 use mathlib.Core.List.{List, [], ◌∷◌, ◌++◌, append-nil, append_assoc}
 use mathlib.Core.Path.{◌≡◌, refl, sym, ap, ap₂, ◌∙◌, subst}
-use lib.ListN.{length, get_or, set, length-append, replicate}
-use lib.Seq.{get_or-append_seam, get_or-append-add}
+use lib.ListN.{length, get_or, set, drop, length-append, replicate}
+use lib.Seq.{get_or-append_seam, get_or-append-add, get_or-drop}
+use Rattle.std.specs.Simd.{first_chunks}
 use Rattle.model.specs.Limits.{flow_limit, size_limit}
 use Rattle.model.specs.declared.Sent.{Sent}
 use Rattle.play.specs.Log.{log_of, InRange}
@@ -23,12 +25,14 @@ use Rattle.shares.proofs.ShareLaws.{share_snoc, flows_snoc, flow_share, flow_at_
 abbrev none : Share
 none = record { packets = 0; bytes = 0; largest = 0 }
 
-pub nothing_sent : record {
-  flows = replicate flow_limit none;
-  total = none;
-} ≡ shares_of []
+pub nothing_sent : (s : Share) → (s.packets ≡ 0) × ((s.bytes ≡ 0) × (s.largest ≡ 0)) → record { flows = replicate flow_limit s; total = s } ≡ shares_of []
 unfolding shares_of shares_from of_flow share_of bytes_of largest_of
-nothing_sent = refl
+nothing_sent s e = ap (λ (x : Share). record { flows = replicate flow_limit x; total = x }) is_none
+  where
+    is_none : s ≡ none
+    is_none =
+        ap₂ (λ (packets bytes : ℕ). record { packets = packets; bytes = bytes; largest = s.largest }) e.0 e.1.0
+        ∙ ap (λ (largest : ℕ). record { packets = 0; bytes = 0; largest = largest }) e.1.1
 
 -- Of the departures in a log, some are counted beside those before.
 pub record Counted (before more : List Sent) (flows : List Share) (total : Share) (at : ℕ) : Type 0 where
@@ -58,13 +62,38 @@ reads_begin log flows total before more e f l =
 
 -- ---- the departure at a place
 
+-- The two numbers of a departure: the flow and the size.
+pub record Departure (log : List ℕ) (at flow size : ℕ) : Type 0 where
+  pub within : at < length log
+  pub flow_at : flow ≡ get_or log at 0
+  pub size_at : size ≡ get_or log (at + 1) 0
+
+numbers_of : (k : ℕ) (log : List ℕ) (i : ℕ) → i < k
+    → (get_or (get_or (first_chunks 2 k log) i []) 0 0 ≡ get_or log (2 * i) 0) × (get_or (get_or (first_chunks 2 k log) i []) 1 0 ≡ get_or log (2 * i + 1) 0)
+numbers_of zero log i h = absurd (omega arith)
+numbers_of (suc k) [] zero h = (refl, refl)
+numbers_of (suc k) (x ∷ []) zero h = (refl, refl)
+numbers_of (suc k) (x ∷ y ∷ log) zero h = (refl, refl)
+numbers_of (suc k) log (suc i) h =
+    let all = numbers_of k (drop 2 log) i (omega arith) in
+    (all.0 ∙ get_or-drop 2 log (2 * i) 0 ∙ ap (λ (n : ℕ). get_or log n 0) (omega arith), all.1 ∙ get_or-drop 2 log (2 * i + 1) 0 ∙ ap (λ (n : ℕ). get_or log n 0) (omega arith))
+
+pub departure : {log : List ℕ} {departures : List (List ℕ)} {i : ℕ} → departures ≡ first_chunks 2 (length log / 2) log → length departures ≡ length log / 2 → i < length departures
+    → Departure log (2 * i) (get_or (get_or departures i []) 0 0) (get_or (get_or departures i []) 1 0)
+departure {log} {departures} {i} e f h =
+    let numbers = numbers_of (length log / 2) log i (omega arith) in
+    record {
+      within = omega arith;
+      flow_at = ap (λ (l : List (List ℕ)). get_or (get_or l i []) 0 0) e ∙ numbers.0;
+      size_at = ap (λ (l : List (List ℕ)). get_or (get_or l i []) 1 0) e ∙ numbers.1;
+    }
+
 record Met (log : List ℕ) (at : ℕ) (rest : List Sent) : Type 0 where
   d : Sent
   further : List Sent
   begins : rest ≡ d ∷ further
   flow_is : get_or log at 0 ≡ d.flow
   size_is : get_or log (at + 1) 0 ≡ d.size
-  pair : at + 1 < length log
 
 met : (log : List ℕ) (at : ℕ) (done rest : List Sent) → log ≡ log_of (done ++ rest) → at ≡ length (log_of done) → at < length log → Met log at rest
 unfolding log_of
@@ -76,7 +105,6 @@ met log at done (d ∷ further) e p h =
       begins = refl;
       flow_is = ap₂ (λ (l : List ℕ) (n : ℕ). get_or l n 0) whole p ∙ get_or-append_seam (log_of done) d.flow (d.size ∷ log_of further) 0;
       size_is = ap₂ (λ (l : List ℕ) (n : ℕ). get_or l (n + 1) 0) whole p ∙ get_or-append-add (log_of done) (d.flow ∷ d.size ∷ log_of further) 1 0;
-      pair = omega (arith, ap length whole, length-append (log_of done) (d.flow ∷ d.size ∷ log_of further));
     }
   where
     whole : log ≡ log_of done ++ (d.flow ∷ d.size ∷ log_of further)
@@ -84,12 +112,10 @@ met log at done (d ∷ further) e p h =
 
 -- ---- the next departure
 
-pub record Next (log : List ℕ) (flows : List Share) (total : Share) (at : ℕ) : Type 0 where
-  pub pair : at + 1 < length log
-  pub flow_small : get_or log at 0 < flow_limit
-  pub size_small : get_or log (at + 1) 0 ≤ size_limit
-  pub share_fits : ((get_or flows (get_or log at 0) none).packets + 1 < 2 ^ 64) × ((get_or flows (get_or log at 0) none).bytes + get_or log (at + 1) 0 < 2 ^ 64)
-  pub total_fits : (total.packets + 1 < 2 ^ 64) × (total.bytes + get_or log (at + 1) 0 < 2 ^ 64)
+pub record Next (flows : List Share) (total : Share) (flow size : ℕ) : Type 0 where
+  pub flow_small : flow < flow_limit
+  pub share_fits : ((get_or flows flow none).packets + 1 < 2 ^ 64) × ((get_or flows flow none).bytes + size < 2 ^ 64)
+  pub total_fits : (total.packets + 1 < 2 ^ 64) × (total.bytes + size < 2 ^ 64)
 
 in_range_first : (l : List Sent) (d : Sent) (further : List Sent) → l ≡ d ∷ further → InRange l → (d.flow < flow_limit) × (d.size ≤ size_limit)
 unfolding InRange
@@ -108,12 +134,12 @@ pub total_is : {s : Shares} (before : List Sent) → s ≡ shares_of before → 
 unfolding shares_of
 total_is before e = ap (λ (x : Shares). x.total) e
 
-module _ {s : Shares} {log : List ℕ} {flows : List Share} {total : Share} {at : ℕ} (r : Readable s log) (h : Reads log s.flows s.total flows total at) (within : at < length log) where
+module _ {s : Shares} {log : List ℕ} {flows : List Share} {total : Share} {at flow size : ℕ} (r : Readable s log) (h : Reads log s.flows s.total flows total at) (p : Departure log at flow size) where
   counted : Counted r.before r.more flows total at
   counted = h r.before r.more (flows_are r.before r.shares_is) (total_is r.before r.shares_is) r.log_is
 
   here : Met log at counted.rest
-  here = met log at counted.done counted.rest (r.log_is ∙ ap log_of counted.split) counted.place within
+  here = met log at counted.done counted.rest (r.log_is ∙ ap log_of counted.split) counted.place p.within
 
   parts : InRange counted.done × InRange counted.rest
   parts = in_range_parts counted.done counted.rest (subst InRange counted.split r.more_in_range)
@@ -131,24 +157,22 @@ module _ {s : Shares} {log : List ℕ} {flows : List Share} {total : Share} {at 
   of_total : ((share_of sofar).packets ≡ length sofar) × ((share_of sofar).bytes ≤ size_limit * length sofar) × ((share_of sofar).largest ≤ size_limit)
   of_total = total_at_most sofar (in_range_append r.before counted.done r.before_in_range parts.0)
 
-  of_flow_is : get_or flows (get_or log at 0) none ≡ share_of (of_flow here.d.flow sofar)
+  of_flow_is : get_or flows flow none ≡ share_of (of_flow here.d.flow sofar)
   of_flow_is =
-      ap₂ (λ (l : List Share) (f : ℕ). get_or l f none) counted.flows_of here.flow_is ∙ flow_share flow_limit sofar here.d.flow none small.0
+      ap₂ (λ (l : List Share) (f : ℕ). get_or l f none) counted.flows_of (p.flow_at ∙ here.flow_is) ∙ flow_share flow_limit sofar here.d.flow none small.0
 
-  pub next : Next log flows total at
+  pub next : Next flows total flow size
   next =
       let most = flow_at_most here.d.flow sofar in
       record {
-        pair = here.pair;
-        flow_small = omega (arith, here.flow_is, small.0);
-        size_small = omega (arith, here.size_is, small.1);
+        flow_small = omega (arith, p.flow_at, here.flow_is, small.0);
         share_fits = (
           omega (arith, ap (λ (x : Share). x.packets) of_flow_is, most.0, of_total.0, few),
-          omega (arith, ap (λ (x : Share). x.bytes) of_flow_is, most.1, of_total.1, few, here.size_is, small.1),
+          omega (arith, ap (λ (x : Share). x.bytes) of_flow_is, most.1, of_total.1, few, p.size_at, here.size_is, small.1),
         );
         total_fits = (
           omega (arith, ap (λ (x : Share). x.packets) counted.total_of, of_total.0, few),
-          omega (arith, ap (λ (x : Share). x.bytes) counted.total_of, of_total.1, few, here.size_is, small.1),
+          omega (arith, ap (λ (x : Share). x.bytes) counted.total_of, of_total.1, few, p.size_at, here.size_is, small.1),
         );
       }
 
@@ -159,30 +183,30 @@ unfolding log_of
 log_of_one d = refl
 
 -- nothing is left of a log that is read to its end
-nothing_left : (log : List ℕ) (at : ℕ) (done rest : List Sent) → log ≡ log_of (done ++ rest) → at ≡ length (log_of done) → length log ≤ at → rest ≡ []
+nothing_left : (log : List ℕ) (at : ℕ) (done rest : List Sent) → log ≡ log_of (done ++ rest) → at ≡ length (log_of done) → length log < at + 2 → rest ≡ []
 unfolding log_of
 nothing_left log at done [] e p h = refl
 nothing_left log at done (d ∷ further) e p h =
     absurd (omega (arith, ap length (e ∙ log_append done (d ∷ further)), length-append (log_of done) (d.flow ∷ d.size ∷ log_of further)))
 
 module _ {log : List ℕ} {flows₀ : List Share} {total₀ : Share} {flows : List Share} {total : Share} {at : ℕ} (h : Reads log flows₀ total₀ flows total at) where
-  pub reads_on : at < length log → get_or log at 0 < flow_limit → {x y : Share} → x ≡ with_packet (get_or flows (get_or log at 0) none) (get_or log (at + 1) 0) → y ≡ with_packet total (get_or log (at + 1) 0)
-      → Reads log flows₀ total₀ (set flows (get_or log at 0) x) y (at + 2)
-  reads_on within small {x} {y} e f before more i j l =
+  pub reads_on : {flow size further : ℕ} → Departure log at flow size → flow < flow_limit → further ≡ at + 2
+      → {x y : Share} → x ≡ with_packet (get_or flows flow none) size → y ≡ with_packet total size → Reads log flows₀ total₀ (set flows flow x) y further
+  reads_on {flow} {size} {further} p small k {x} {y} e f before more i j l =
       record {
         done = c.done ++ m.d ∷ [];
         rest = m.further;
         split = c.split ∙ ap (λ (k : List Sent). c.done ++ k) m.begins ∙ sym (append_assoc c.done (m.d ∷ []) m.further);
         place = further_on;
         flows_of =
-            ap (set flows (get_or log at 0)) e
-            ∙ ap₂ (λ (n z : ℕ). set flows n (with_packet (get_or flows n none) z)) m.flow_is m.size_is
+            ap (set flows flow) e
+            ∙ ap₂ (λ (n z : ℕ). set flows n (with_packet (get_or flows n none) z)) (p.flow_at ∙ m.flow_is) (p.size_at ∙ m.size_is)
             ∙ ap (λ (k : List Share). set k m.d.flow (with_packet (get_or k m.d.flow none) m.d.size)) c.flows_of
             ∙ flows_snoc flow_limit (before ++ c.done) m.d none flow_small
             ∙ ap (shares_from flow_limit 0) (append_assoc before c.done (m.d ∷ []));
         total_of =
             f
-            ∙ ap₂ with_packet c.total_of m.size_is
+            ∙ ap₂ with_packet c.total_of (p.size_at ∙ m.size_is)
             ∙ sym (share_snoc (before ++ c.done) m.d)
             ∙ ap share_of (append_assoc before c.done (m.d ∷ []));
       }
@@ -191,15 +215,15 @@ module _ {log : List ℕ} {flows₀ : List Share} {total₀ : Share} {flows : Li
       c = h before more i j l
 
       m : Met log at c.rest
-      m = met log at c.done c.rest (l ∙ ap log_of c.split) c.place within
+      m = met log at c.done c.rest (l ∙ ap log_of c.split) c.place p.within
 
       flow_small : m.d.flow < flow_limit
-      flow_small = omega (arith, m.flow_is, small)
+      flow_small = omega (arith, p.flow_at, m.flow_is, small)
 
-      further_on : at + 2 ≡ length (log_of (c.done ++ m.d ∷ []))
-      further_on = omega (arith, c.place, ap length (log_append c.done (m.d ∷ [])), length-append (log_of c.done) (log_of (m.d ∷ [])), log_of_one m.d)
+      further_on : further ≡ length (log_of (c.done ++ m.d ∷ []))
+      further_on = omega (arith, k, c.place, ap length (log_append c.done (m.d ∷ [])), length-append (log_of c.done) (log_of (m.d ∷ [])), log_of_one m.d)
 
-  pub reads_end : length log ≤ at → (before more : List Sent) → flows₀ ≡ shares_from flow_limit 0 before → total₀ ≡ share_of before → log ≡ log_of more
+  pub reads_end : length log < at + 2 → (before more : List Sent) → flows₀ ≡ shares_from flow_limit 0 before → total₀ ≡ share_of before → log ≡ log_of more
       → record { flows = flows; total = total } ≡ shares_of (before ++ more)
   unfolding shares_of
   reads_end past before more i j l =

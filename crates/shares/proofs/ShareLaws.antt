@@ -35,11 +35,6 @@ largest_append (d ∷ a) b = omega (arith, largest_append a b)
 abbrev share : ℕ → ℕ → ℕ → Share
 share packets bytes largest = record { packets = packets; bytes = bytes; largest = largest }
 
--- The larger of two sizes, as a branch finds it.
-pub with_larger : (s : Share) (size : ℕ) {larger : ℕ} → larger ≡ max s.largest size → share (s.packets + 1) (s.bytes + size) larger ≡ with_packet s size
-unfolding with_packet
-with_larger s size e = ap (share (s.packets + 1) (s.bytes + size)) e
-
 bytes_snoc : (l : List Sent) (d : Sent) → bytes_of (l ++ d ∷ []) ≡ bytes_of l + d.size
 unfolding bytes_of
 bytes_snoc l d = omega (arith, bytes_append l (d ∷ []))

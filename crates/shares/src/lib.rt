@@ -10,7 +10,7 @@ ghost use Rattle.shares.specs.Reading.{with_packet, Readable};
 use model::FLOW_LIMIT;
 
 // What was sent. The largest is 0 where nothing was.
-#[derive(Clone, Copy)]
+#[derive(Clone, Copy, Default)]
 pub struct Share {
     pub packets: usize,
     pub bytes: usize,
@@ -23,15 +23,26 @@ pub struct Shares {
     pub total: Share,
 }
 
+impl Share {
+    // One packet more.
+    fn with_packet(self, size: usize) -> Self
+        requires packets_bound { self.packets + 1 < 2 ^ 64 }
+        requires size_bound { self.bytes + size < 2 ^ 64 }
+        ensures { result ≡ with_packet self size }
+    {
+        Share {
+            packets: self.packets + 1,
+            bytes: self.bytes + size,
+            largest: self.largest.max(size),
+        }
+    }
+}
+
 impl Shares {
     pub fn new() -> Self
         ensures { result ≡ shares_of [] }
     {
-        let none = Share {
-            packets: 0,
-            bytes: 0,
-            largest: 0,
-        };
+        let none = Share::default();
         Shares {
             flows: [none; FLOW_LIMIT],
             total: none,
@@ -39,38 +50,17 @@ impl Shares {
     }
 
     // The departures in a log are counted in.
-    pub fn with(self, log: &[u16]) -> Self
+    pub fn with(mut self, log: &[u16]) -> Self
         requires { Readable self log.now }
         ensures { (before more : List Sent) → self ≡ shares_of before → log.now ≡ log_of more → result ≡ shares_of (before ++ more) }
     {
-        let mut flows = self.flows;
-        let mut total = self.total;
-        let mut at = 0;
-        while at < log.len() {
-            let flow = log[at] as usize;
-            let size = log[at + 1] as usize;
-            let share = flows[flow];
-            flows[flow] = with_packet(share, size);
-            total = with_packet(total, size);
-            at += 2;
+        let (departures, _) = log.as_chunks::<2>();
+        for &[flow, size] in departures {
+            let flow = flow as usize;
+            let size = size as usize;
+            self.flows[flow] = self.flows[flow].with_packet(size);
+            self.total = self.total.with_packet(size);
         }
-        Shares { flows, total }
-    }
-}
-
-fn with_packet(share: Share, size: usize) -> Share
-    requires packets_bound { share.packets + 1 < 2 ^ 64 }
-    requires size_bound { share.bytes + size < 2 ^ 64 }
-    ensures { result ≡ with_packet share size }
-{
-    let largest = if share.largest < size {
-        size
-    } else {
-        share.largest
-    };
-    Share {
-        packets: share.packets + 1,
-        bytes: share.bytes + size,
-        largest,
+        self
     }
 }

@@ -3,4 +3,4 @@ use Rattle.shares.proofs.ReadLaws.{nothing_sent}
 use Rattle.shares.proofs.Shares.new.Goals as goal
 
 pub returns : goal.returns
-returns c = nothing_sent
+returns c = nothing_sent c.default-none.result c.default-none.ensures
