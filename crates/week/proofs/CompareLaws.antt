@@ -1,17 +1,19 @@
 -- Two texts, compared byte by byte.
 --     same_to_itself, same_are_equal      `same` finds out whether two texts are equal
---     differ_begin, differ-on, differ_end, differ_here   the line from which on they differ, in the loop that finds it
+--     feeds_counted, few_feeds            the line feeds up to where they differ
 --     cut_same, cut_difference            a text that is cut off behind the other's end compares as the whole does
 use Prim.Native.Nat.{ℕ, zero, suc, ◌+◌, ◌<◌, ◌≤◌}
-use native.Mathlib.Numerals.{add-one}
+use native.Mathlib.Numerals.{one-add}
 use native.Mathlib.Omega.{arith}
 use mathlib.Core.Bool.{Bool, true, false, cond, true≢false}
 use mathlib.Core.List.{List, [], ◌∷◌}
 use mathlib.Core.Path.{◌≡◌, refl, sym, ap, ap₂, ◌∙◌}
-use lib.ListN.{length, get_or, take, drop, drop_of_length-le}
-use lib.Seq.{drop-cons}
+use lib.ListN.{length, take}
 use lib.Dec.{eqb}
-use borrow.Author.Tests.{eq-eqb, ne_eqb, eqb-true}
+use Rattle.std.specs.Prelude.{◌==◌, filter, take_while, count_by}
+use Rattle.std.specs.List.{zip, prefix_len}
+use Rattle.std.proofs.lemmas.List.Sums.{length-filter}
+use borrow.Author.Tests.{eq-eqb, eqb-true}
 use Rattle.week.specs.Site.{same, common, line_feeds, first_difference}
 
 -- ---- equal texts
@@ -34,69 +36,49 @@ same_are_equal (x ∷ a) (y ∷ b) e = by_test (eqb x y) refl (same_are_equal a 
 
 -- ---- the first difference
 
--- What is still to be counted, from a place on.
-pub record Differing (a b : List ℕ) (line i : ℕ) : Type 0 where
-  pub counted : line + line_feeds (common (drop i a) (drop i b)) ≡ first_difference a b
-  pub small : line ≤ i + 1
-  pub place : i ≤ length a
+-- two bytes side by side: alike, and a line feed
+abbrev alike : ℕ × ℕ → Bool
+alike p = p.0 == p.1
 
-pub differ_begin : (a b : List ℕ) → Differing a b 1 0
-unfolding first_difference
-differ_begin a b = record { counted = refl; small = omega arith; place = omega arith }
+abbrev feed : ℕ × ℕ → Bool
+feed p = p.0 == 10
 
-none_in_common : (a : List ℕ) → common a [] ≡ []
-unfolding common
-none_in_common [] = refl
-none_in_common (x ∷ a) = refl
+-- The line feeds among the pairs that both texts begin with are those of the longest common beginning.
+feeds_filtered : (a b : List ℕ) → length (filter feed (take_while alike (zip a b))) ≡ line_feeds (common a b)
+unfolding line_feeds common
+feeds_filtered [] b = refl
+feeds_filtered (x ∷ a) [] = refl
+feeds_filtered (x ∷ a) (y ∷ b) = by_test (eqb x y) (feeds_filtered a b)
+  where
+    alike_on : List (ℕ × ℕ)
+    alike_on = take_while alike (zip a b)
 
-module _ {a b : List ℕ} {line i : ℕ} (h : Differing a b line i) where
-  -- nothing more is in common
-  stops : common (drop i a) (drop i b) ≡ [] → line ≡ first_difference a b
-  unfolding line_feeds
-  stops e = omega (arith, ap (λ (l : List ℕ). line + line_feeds l) e, h.counted)
+    by_feed : (f : Bool) → length (filter feed alike_on) ≡ line_feeds (common a b)
+        → length (cond f ((x, y) ∷ filter feed alike_on) (filter feed alike_on)) ≡ cond f 1 0 + line_feeds (common a b)
+    by_feed true e = omega (arith, e)
+    by_feed false e = omega (arith, e)
 
-  pub differ_end : length a ≤ i → line ≡ first_difference a b
-  unfolding common
-  differ_end e = stops (ap (λ (l : List ℕ). common l (drop i b)) (drop_of_length-le a e))
+    by_test : (t : Bool) → length (filter feed alike_on) ≡ line_feeds (common a b)
+        → length (filter feed (take (cond t (1 + prefix_len alike (zip a b)) 0) ((x, y) ∷ zip a b))) ≡ line_feeds (cond t (x ∷ common a b) [])
+    by_test true e = rw one-add (by_feed (eqb x 10) e)
+    by_test false e = refl
 
-  pub differ_shorter : length b ≤ i → line ≡ first_difference a b
-  differ_shorter e = stops (ap (common (drop i a)) (drop_of_length-le b e) ∙ none_in_common (drop i a))
+pub feeds_counted : (a b : List ℕ) → count_by feed (take_while alike (zip a b)) ≡ line_feeds (common a b)
+feeds_counted a b = sym (length-filter feed (take_while alike (zip a b))) ∙ feeds_filtered a b
 
-  module _ (in-a : i < length a) (in_b : i < length b) where
-    side_by_side : common (drop i a) (drop i b) ≡ cond (eqb (get_or a i 0) (get_or b i 0)) (get_or a i 0 ∷ common (drop (suc i) a) (drop (suc i) b)) []
-    unfolding common
-    side_by_side = ap₂ common (drop-cons a i 0 in-a) (drop-cons b i 0 in_b)
+pub few_feeds : (a b : List ℕ) → line_feeds (common a b) ≤ length b
+unfolding line_feeds common
+few_feeds [] b = omega arith
+few_feeds (x ∷ a) [] = omega arith
+few_feeds (x ∷ a) (y ∷ b) = by_test (eqb x y) (few_feeds a b)
+  where
+    one_at_most : (t : Bool) → cond t 1 0 ≤ 1
+    one_at_most true = omega arith
+    one_at_most false = omega arith
 
-    pub differ_here : (get_or a i 0 ≡ get_or b i 0 → ⊥) → line ≡ first_difference a b
-    differ_here n =
-        stops (side_by_side ∙ ap (λ (t : Bool). cond t (get_or a i 0 ∷ common (drop (suc i) a) (drop (suc i) b)) []) (ne_eqb (get_or a i 0) (get_or b i 0) n))
-
-    module _ (alike : get_or a i 0 ≡ get_or b i 0) where
-      one_more : common (drop i a) (drop i b) ≡ get_or a i 0 ∷ common (drop (i + 1) a) (drop (i + 1) b)
-      one_more =
-          side_by_side
-          ∙ ap (λ (t : Bool). cond t (get_or a i 0 ∷ common (drop (suc i) a) (drop (suc i) b)) []) (eq-eqb (get_or a i 0) (get_or b i 0) alike)
-          ∙ ap (λ (n : ℕ). get_or a i 0 ∷ common (drop n a) (drop n b)) (sym (add-one i))
-
-      feeds : line_feeds (common (drop i a) (drop i b)) ≡ cond (eqb (get_or a i 0) 10) 1 0 + line_feeds (common (drop (i + 1) a) (drop (i + 1) b))
-      unfolding line_feeds
-      feeds = ap line_feeds one_more
-
-      pub differ_on_feed : {next : ℕ} → get_or a i 0 ≡ 10 → next ≡ line + 1 → Differing a b next (i + 1)
-      differ_on_feed e f =
-          record {
-            counted = omega (arith, f, feeds, ap {B = ℕ} (λ (t : Bool). cond t 1 0) (eq-eqb (get_or a i 0) 10 e), h.counted);
-            small = omega (arith, f, h.small);
-            place = omega arith;
-          }
-
-      pub differ_on_other : {next : ℕ} → (get_or a i 0 ≡ 10 → ⊥) → next ≡ line → Differing a b next (i + 1)
-      differ_on_other n f =
-          record {
-            counted = omega (arith, f, feeds, ap {B = ℕ} (λ (t : Bool). cond t 1 0) (ne_eqb (get_or a i 0) 10 n), h.counted);
-            small = omega (arith, f, h.small);
-            place = omega arith;
-          }
+    by_test : (t : Bool) → line_feeds (common a b) ≤ length b → line_feeds (cond t (x ∷ common a b) []) ≤ suc (length b)
+    by_test true h = omega (arith, one_at_most (eqb x 10), h)
+    by_test false h = omega arith
 
 -- ---- a text that is cut off
 

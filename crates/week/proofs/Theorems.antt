@@ -8,31 +8,29 @@
 --     sums_at_most                                the largest that a number of 64 sites can be
 --     flow_at_most_total                          a flow's are no larger than the total's
 --     line_at_most                                and so is the line that is told of a site
-use Prim.Native.Nat.{ℕ, suc, ◌+◌, ◌<◌, ◌≤◌}
+use Prim.Native.Nat.{ℕ, ◌+◌, ◌<◌, ◌≤◌}
 use native.Mathlib.Omega.{arith}
 use mathlib.Core.Bool.{Bool, true, false, cond}
-use mathlib.Core.List.{List, [], ◌∷◌}
+use mathlib.Core.List.{List, []}
 use mathlib.Core.Path.{◌≡◌, refl, ap}
 use lib.ListN.{length, get_or}
-use lib.Dec.{eqb}
+use Rattle.std.proofs.Common.{Ok, Err}
 use Rattle.model.specs.Limits.{flow_limit}
 use Rattle.play.specs.Transcript.{output_limit, transcript}
-use Rattle.play.specs.Log.{departures_of, ending_of}
-use Rattle.play.specs.declared.Ending.{Ending}
-use Rattle.play.specs.declared.Ending.TheVariants.{Whole, BadLine}
+use Rattle.play.specs.Log.{Ending, departures_of, ending_of}
 use Rattle.play.proofs.Lengths.{line_told, transcript_fits, bad_line_small}
 use Rattle.shares.specs.Share.{of_flow, share_of, shares_of}
 use Rattle.shares.specs.declared.Share.{Share}
 use Rattle.shares.proofs.ShareLaws.{flow_share, flow_at_most, total_at_most}
 use Rattle.shares.proofs.Totals.{packets_in, bytes_in, largest_in, flows_add_up}
-use Rattle.week.specs.Site.{Site, events_unread, output_unread, files, follows, common, line_feeds, first_difference, followed, verdict_of, adds, is_summed}
+use Rattle.week.specs.Site.{Site, events_unread, output_unread, files, follows, first_difference, followed, verdict_of, adds, is_summed}
 use Rattle.week.specs.Week.{site_limit, departures_over, week_of}
 use Rattle.week.specs.Runs.{Takes, Run, new, one_more}
 use Rattle.week.specs.declared.Verdict.{Verdict}
 use Rattle.week.specs.declared.Verdict.TheVariants.{Follows, Ended, Differs, EventsUnread, OutputUnread}
+use Rattle.week.proofs.CompareLaws.{few_feeds}
 use Rattle.week.proofs.SiteLaws.{follows_only_when, following, differing}
 use Rattle.week.specs.Reading.{ReadOf, GivesUnread, GivesSite}
-use Rattle.week.specs.declared.Judged.{Judged}
 use Rattle.week.specs.declared.Week.{Week}
 use Rattle.week.proofs.WeekLaws.{in_range, few, judged_week}
 
@@ -58,8 +56,8 @@ module _ (events output : List ℕ) where
 pub unread_takes : {w r : Week} → GivesUnread w r → Takes events_unread w r × Takes output_unread w r
 unread_takes g = (λ sites e. (g sites e).0, λ sites e. (g sites e).1)
 
-pub site_takes : {w : Week} {r : Judged} (buffer : List ℕ) (n : ℕ) (space : List ℕ) (m : ℕ) (events output : List ℕ)
-    → GivesSite w buffer n space m r → ReadOf events buffer n → ReadOf output space m → Takes (files events output) w r.week
+pub site_takes : {w : Week} {r : Week × Verdict} (buffer : List ℕ) (n : ℕ) (space : List ℕ) (m : ℕ) (events output : List ℕ)
+    → GivesSite w buffer n space m r → ReadOf events buffer n → ReadOf output space m → Takes (files events output) w r.0
 site_takes buffer n space m events output g h k sites e = judged_week sites (files events output) (g sites events output e h k)
 
 pub run_is_the_week : {sites : List Site} {w : Week} → Run sites w → w ≡ week_of sites
@@ -102,23 +100,9 @@ line_of_verdict (Differs line) = line
 line_of_verdict EventsUnread = 0
 line_of_verdict OutputUnread = 0
 
-one_at_most : (t : Bool) → cond t 1 0 ≤ 1
-one_at_most true = omega arith
-one_at_most false = omega arith
-
-few_feeds : (a b : List ℕ) → line_feeds (common a b) ≤ length b
-unfolding line_feeds common
-few_feeds [] b = omega arith
-few_feeds (x ∷ a) [] = omega arith
-few_feeds (x ∷ a) (y ∷ b) = by_test (eqb x y) (few_feeds a b)
-  where
-    by_test : (t : Bool) → line_feeds (common a b) ≤ length b → line_feeds (cond t (x ∷ common a b) []) ≤ suc (length b)
-    by_test true h = omega (arith, one_at_most (eqb x 10), h)
-    by_test false h = omega arith
-
 line_of_followed : (e : Ending) → line_of_verdict (followed e) ≡ line_told e
-line_of_followed Whole = refl
-line_of_followed (BadLine line) = refl
+line_of_followed (Ok x) = refl
+line_of_followed (Err bad_line) = refl
 
 pub line_at_most : (s : Site) → line_of_verdict (verdict_of s) ≤ output_limit + 1
 unfolding verdict_of first_difference

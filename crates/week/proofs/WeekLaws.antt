@@ -23,7 +23,6 @@ use Rattle.shares.specs.declared.Shares.{Shares}
 use Rattle.week.specs.Site.{Site, events_unread, output_unread, files, follows, first_difference, followed, verdict_of, adds, is_summed}
 use Rattle.week.specs.Week.{site_limit, departures_over, summed_among, week_of}
 use Rattle.week.specs.Reading.{Sound, ReadOf, judged_as}
-use Rattle.week.specs.declared.Judged.{Judged}
 use Rattle.week.specs.declared.Verdict.{Verdict}
 use Rattle.week.specs.declared.Verdict.TheVariants.{Differs}
 use Rattle.week.specs.declared.Week.{Week}
@@ -133,8 +132,8 @@ unfolding adds is_summed
 unread_week sites e = (left_out events_unread refl refl sites e, left_out output_unread refl refl sites e)
 
 module _ (events output : List ℕ) {w : Week} (sites : List Site) (e : w ≡ week_of sites) where
-  abbrev judged_with : Week → Verdict → Judged
-  judged_with x v = record { week = x; verdict = v }
+  abbrev judged_with : Week → Verdict → Week × Verdict
+  judged_with x v = (x, v)
 
   pub differing_week : (output ≡ transcript events → ⊥) → {line : ℕ} → line ≡ first_difference output (transcript events)
       → judged_with (week w.shares w.summed (w.sites + 1)) (Differs line) ≡ judged_as sites (files events output)
@@ -185,19 +184,19 @@ readable events s room e =
     }
 
 -- The two parts of what is judged.
-pub judged_week : {r : Judged} (sites : List Site) (s : Site) → r ≡ judged_as sites s → r.week ≡ week_of (sites ++ s ∷ [])
+pub judged_week : {r : Week × Verdict} (sites : List Site) (s : Site) → r ≡ judged_as sites s → r.0 ≡ week_of (sites ++ s ∷ [])
 unfolding judged_as
-judged_week sites s e = ap (λ (x : Judged). x.week) e
+judged_week sites s e = ap (λ (x : Week × Verdict). x.0) e
 
-pub judged_verdict : {r : Judged} (sites : List Site) (s : Site) → r ≡ judged_as sites s → r.verdict ≡ verdict_of s
+pub judged_verdict : {r : Week × Verdict} (sites : List Site) (s : Site) → r ≡ judged_as sites s → r.1 ≡ verdict_of s
 unfolding judged_as
-judged_verdict sites s e = ap (λ (x : Judged). x.verdict) e
+judged_verdict sites s e = ap (λ (x : Week × Verdict). x.1) e
 
 -- Files that are read in part.
 alike_judged : (sites : List Site) (s t : Site) → Alike s t → judged_as sites s ≡ judged_as sites t
 unfolding judged_as
 alike_judged sites s t a =
-    ap₂ (λ (w : Week) (v : Verdict). record { week = w; verdict = v })
+    ap₂ (λ (w : Week) (v : Verdict). (w, v))
     (week_snoc sites s
     ∙ ap₂ (λ (l : List Sent) (n : ℕ). week (shares_of (departures_over sites ++ l)) (summed_among sites + n) (length sites + 1)) a.added a.summed
     ∙ sym (week_snoc sites t))

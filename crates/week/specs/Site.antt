@@ -1,10 +1,8 @@
 -- A site of a week: its event lines and the replay's output, each in a file; and whether the output follows from the events.
-use Rattle.std.specs.Prelude.{ℕ, ◌+◌, Bool, true, false, cond, List, [], ◌∷◌, eqb}
+use Rattle.std.specs.Prelude.{ℕ, ◌+◌, Bool, true, false, cond, List, [], ◌∷◌, Ok, Err, eqb}
 use Rattle.model.specs.declared.Sent.{Sent}
 use Rattle.play.specs.Transcript.{transcript}
-use Rattle.play.specs.Log.{departures_of, ending_of}
-use Rattle.play.specs.declared.Ending.{Ending}
-use Rattle.play.specs.declared.Ending.TheVariants.{Whole, BadLine}
+use Rattle.play.specs.Log.{Ending, departures_of, ending_of}
 use Rattle.week.specs.declared.Verdict.{Verdict}
 use Rattle.week.specs.declared.Verdict.TheVariants.{Follows, Ended, Differs, EventsUnread, OutputUnread}
 
@@ -44,8 +42,8 @@ first_difference a b = 1 + line_feeds (common a b)
 
 -- A site that follows may have ended in a bad line.
 abbrev pub followed : Ending → Verdict
-followed Whole = Follows
-followed (BadLine line) = Ended line
+followed (Ok x) = Follows
+followed (Err bad_line) = Ended bad_line.0
 
 unfoldable pub verdict_of : Site → Verdict
 verdict_of events_unread = EventsUnread

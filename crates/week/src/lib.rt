@@ -3,12 +3,11 @@
 
 ghost use Rattle.std.specs.Prelude.{◌<◌, ◌≤◌, List, [], ◌≡◌, length};
 ghost use Rattle.play.specs.Transcript.{input_limit, output_limit};
-ghost use Rattle.play.specs.Log.{log_limit};
-ghost use Rattle.week.specs.Site.{Site, files, followed as followed_by};
+ghost use Rattle.week.specs.Site.{Site, files, followed};
 ghost use Rattle.week.specs.Week.{site_limit, week_of};
 ghost use Rattle.week.specs.Reading.{Sound, GivesUnread, GivesSite, judged_as};
 
-use play::{Ending, LOG_LIMIT, OUTPUT_LIMIT};
+use play::{BadLine, LOG_LIMIT, OUTPUT_LIMIT};
 use shares::Shares;
 
 mod compare;
@@ -34,19 +33,24 @@ pub struct Week {
     pub sites: usize,
 }
 
-#[derive(Clone, Copy)]
-pub struct Judged {
-    pub week: Week,
-    pub verdict: Verdict,
+// What is said of a site that follows: its replay may have ended in a bad line.
+impl From<Result<(), BadLine>> for Verdict {
+    ghost from_gives = { λ ending verdict. verdict ≡ followed ending };
+
+    fn from(ending: Result<(), BadLine>) -> Self {
+        match ending {
+            Ok(()) => Verdict::Follows,
+            Err(BadLine(line)) => Verdict::Ended(line),
+        }
+    }
 }
 
 impl Week {
     pub fn new() -> Self
         ensures { result ≡ week_of [] }
     {
-        let shares = Shares::new();
         Week {
-            shares,
+            shares: Shares::new(),
             summed: 0,
             sites: 0,
         }
@@ -57,23 +61,21 @@ impl Week {
         requires { self.sites < site_limit }
         ensures { GivesUnread self result }
     {
-        let shares = self.shares;
-        let sites = self.sites + 1;
         Week {
-            shares,
-            summed: self.summed,
-            sites,
+            sites: self.sites + 1,
+            ..self
         }
     }
 
-    // One site more. The buffers begin with what was read of its files, so many bytes; each is longer than any file that counts.
+    // One site more. The buffers begin with what was read of its files, so many bytes; each is longer than any file that counts. Buffers with a length beside,
+    // and no slices of what was read: the contract speaks of whole files, and that a longer one is known as such rests on the rooms of the buffers.
     pub fn with_site(
         self,
         events: &[u8],
         events_read: usize,
         output: &[u8],
         output_read: usize,
-    ) -> Judged
+    ) -> (Self, Verdict)
         requires sound { Sound self }
         requires sites_lt_site_limit { self.sites < site_limit }
         requires input_limit_in_bounds { input_limit < length events.now }
@@ -86,63 +88,27 @@ impl Week {
     }
 
     // One site more, of these events and this output.
-    fn judged(self, events: &[u8], output: &[u8]) -> Judged
+    fn judged(self, events: &[u8], output: &[u8]) -> (Self, Verdict)
         requires sound { Sound self }
         requires sites_lt_site_limit { self.sites < site_limit }
         ensures { (sites : List Site) → self ≡ week_of sites → result ≡ judged_as sites (files events.now output.now) }
     {
-        let mut transcript = transcript_buffer();
-        let mut log = log_buffer();
+        let mut transcript = [0; OUTPUT_LIMIT];
+        let mut log = [0; LOG_LIMIT];
         let told = play::tell(events, &mut transcript, &mut log);
-        let written = told.written;
-        let shares = self.shares;
+        let transcript = &transcript[..told.written];
         let sites = self.sites + 1;
-        if check::same(output, &transcript[..written]) {
-            let noted = told.noted;
-            let more = shares.with(&log[..noted]);
+        if check::same(output, transcript) {
+            let shares = self.shares.with(&log[..told.noted]);
             let summed = self.summed + 1;
             let week = Week {
-                shares: more,
+                shares,
                 summed,
                 sites,
             };
-            let ending = told.ending;
-            return Judged {
-                week,
-                verdict: followed(ending),
-            };
+            return (week, told.ending.into());
         }
-        let line = compare::first_difference(output, &transcript[..written]);
-        let week = Week {
-            shares,
-            summed: self.summed,
-            sites,
-        };
-        Judged {
-            week,
-            verdict: Verdict::Differs(line),
-        }
-    }
-}
-
-// Zeros, as many as a transcript and a log may take; the contracts give the lengths, which no caller's proof then counts out.
-fn transcript_buffer() -> [u8; OUTPUT_LIMIT]
-    ensures { output_limit ≡ length result }
-{
-    [0; OUTPUT_LIMIT]
-}
-
-fn log_buffer() -> [u16; LOG_LIMIT]
-    ensures { log_limit ≡ length result }
-{
-    [0; LOG_LIMIT]
-}
-
-fn followed(ending: Ending) -> Verdict
-    ensures { result ≡ followed_by ending }
-{
-    match ending {
-        Ending::Whole => Verdict::Follows,
-        Ending::BadLine(line) => Verdict::Ended(line),
+        let line = compare::first_difference(output, transcript);
+        (Week { sites, ..self }, Verdict::Differs(line))
     }
 }

@@ -6,10 +6,9 @@ use Rattle.week.specs.Site.{first_difference, followed}
 use Rattle.week.proofs.WeekLaws.{shares_are, written_whole, noted_whole, summed_small, readable, following_week, differing_week}
 use Rattle.week.proofs.Week.judged.Goals as goal
 
-pub with-more-requires : goal.with-more-requires
-with-more-requires c =
-    let room = c.log_buffer-log.ensures in
-    readable _ c.requires.sound c.requires.sites_lt_site_limit (noted_whole c.tell-told.ensures (omega (arith, room)))
+pub with-shares-requires : goal.with-shares-requires
+with-shares-requires c =
+    readable _ c.requires.sound c.requires.sites_lt_site_limit (noted_whole c.tell-told.ensures (omega arith))
 
 pub overflow_add-summed : goal.overflow_add-summed
 overflow_add-summed c = omega (arith, summed_small c.requires.sound, c.requires.sites_lt_site_limit)
@@ -17,18 +16,15 @@ overflow_add-summed c = omega (arith, summed_small c.requires.sound, c.requires.
 pub returns-then-same : goal.returns-then-same
 returns-then-same c sites e =
     let told = c.tell-told.ensures in
-    let room = c.log_buffer-log.ensures in
-    let space = c.transcript_buffer-transcript.ensures in
     following_week _ _ sites e
-    (c.same.ensures.0 c.if-same.true ∙ written_whole told (omega (arith, space)))
-    (c.with-more.ensures _ _ (shares_are sites e) (noted_whole told (omega (arith, room))))
-    (c.followed.ensures ∙ ap followed told.ended)
+    (c.same.ensures.0 c.if-same.true ∙ written_whole told (omega arith))
+    (c.with-shares.ensures _ _ (shares_are sites e) (noted_whole told (omega arith)))
+    (c.into.ensures ∙ ap followed told.ended)
 
 pub returns : goal.returns
 returns c sites e =
     let told = c.tell-told.ensures in
-    let space = c.transcript_buffer-transcript.ensures in
-    let whole = written_whole told (omega (arith, space)) in
+    let whole = written_whole told (omega arith) in
     differing_week _ _ sites e
     (λ o. true≢false (sym (c.same.ensures.1 (o ∙ sym whole)) ∙ c.if-same.false))
     (c.first_difference-line.ensures ∙ ap (first_difference _) whole)

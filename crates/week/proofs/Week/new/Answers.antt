@@ -3,4 +3,4 @@ use Rattle.week.proofs.WeekLaws.{new_week}
 use Rattle.week.proofs.Week.new.Goals as goal
 
 pub returns : goal.returns
-returns c = new_week c.new-shares.ensures
+returns c = new_week c.new.ensures
