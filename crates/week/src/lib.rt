@@ -67,8 +67,8 @@ impl Week {
         }
     }
 
-    // One site more. The buffers begin with what was read of its files, so many bytes; each is longer than any file that counts. Buffers with a length beside,
-    // and no slices of what was read: the contract speaks of whole files, and that a longer one is known as such rests on the rooms of the buffers.
+    // One site more. The buffers begin with what was read of its files, so many bytes; each is longer than any file that counts. They come whole, with
+    // a length beside, since the contract is about the whole files: a buffer's own length says that nothing that counts was cut off.
     pub fn with_site(
         self,
         events: &[u8],
