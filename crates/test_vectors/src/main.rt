@@ -16,7 +16,7 @@ use std::{io, str};
 const PATH_LIMIT: usize = 4_096;
 
 fn main(rt: HostRuntime) {
-    // the first argument is the program's own name
+    // the first argument is the program's own name; an index, since std's `env::args` wants the heap
     for i in 1..usize::MAX {
         let mut name = [0u8; PATH_LIMIT];
         match rt.arg(i, &mut name) {
