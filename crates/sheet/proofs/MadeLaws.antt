@@ -11,7 +11,6 @@ use Rattle.print.proofs.PageLaws.{put_append, printed, printed_whole}
 use Rattle.week.specs.Site.{events_unread, output_unread, files, verdict_of}
 use Rattle.week.specs.Week.{site_limit, week_of}
 use Rattle.week.specs.Reading.{Sound, GivesUnread, GivesSite, judged_as}
-use Rattle.week.specs.declared.Judged.{Judged}
 use Rattle.week.specs.declared.Verdict.{Verdict}
 use Rattle.week.specs.declared.Verdict.TheVariants.{EventsUnread, OutputUnread}
 use Rattle.week.specs.declared.Week.{Week}
@@ -25,15 +24,15 @@ use Rattle.sheet.specs.Made.{JudgesASite, RemarksASite, MakesASheet}
 -- ---- one site's files
 
 module _ {w r : Week} (u : GivesUnread w r) where
-  pub unread_events : JudgesASite w (record { week = r; verdict = EventsUnread })
+  pub unread_events : JudgesASite w (r, EventsUnread)
   unfolding judged_as verdict_of
-  unread_events = record { site = events_unread; judged = λ sites e. ap (λ (x : Week). record { week = x; verdict = EventsUnread }) (u sites e).0 }
+  unread_events = record { site = events_unread; judged = λ sites e. ap (λ (x : Week). (x, EventsUnread)) (u sites e).0 }
 
-  pub unread_output : JudgesASite w (record { week = r; verdict = OutputUnread })
+  pub unread_output : JudgesASite w (r, OutputUnread)
   unfolding judged_as verdict_of
-  unread_output = record { site = output_unread; judged = λ sites e. ap (λ (x : Week). record { week = x; verdict = OutputUnread }) (u sites e).1 }
+  unread_output = record { site = output_unread; judged = λ sites e. ap (λ (x : Week). (x, OutputUnread)) (u sites e).1 }
 
-pub read_files : {w : Week} {r : Judged} (events output : List ℕ) (n m : ℕ) → n ≤ length events → m ≤ length output
+pub read_files : {w : Week} {r : Week × Verdict} (events output : List ℕ) (n m : ℕ) → n ≤ length events → m ≤ length output
     → GivesSite w events n output m r → JudgesASite w r
 read_files events output n m h k j =
     record {
@@ -67,8 +66,8 @@ module _ {before remarks : List ℕ} {site past : ℕ} {week : Week} (h : Making
   pub making_sound : site ≤ site_limit → Sound week
   making_sound l = record { over = sites_of h.named; is = h.sums; within = omega (arith, sites_length h.named, h.as_many) }
 
-  pub making_on : {r : Judged} {remarks' : List ℕ} {past' : ℕ} → JudgesASite week r → RemarksASite (site + 1) r.verdict remarks past remarks' past'
-      → Making before (site + 1) remarks' r.week past'
+  pub making_on : {r : Week × Verdict} {remarks' : List ℕ} {past' : ℕ} → JudgesASite week r → RemarksASite (site + 1) r.1 remarks past remarks' past'
+      → Making before (site + 1) remarks' r.0 past'
   making_on {r} {remarks'} {past'} j k =
       record {
         named = h.named ++ one ∷ [];

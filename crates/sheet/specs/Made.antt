@@ -4,14 +4,13 @@ use Rattle.print.specs.Page.{page, put, PrintedWhole}
 use Rattle.week.specs.Site.{Site}
 use Rattle.week.specs.Week.{week_of}
 use Rattle.week.specs.Reading.{judged_as}
-use Rattle.week.specs.declared.Judged.{Judged}
 use Rattle.week.specs.declared.Verdict.{Verdict}
 use Rattle.week.specs.declared.Week.{Week}
 use Rattle.sheet_text.specs.Sheet.{remark_text, Named, sites_of, remarks_after}
 use Rattle.sheet.specs.declared.Made.{Made}
 
 -- One site more is judged.
-pub record JudgesASite (week : Week) (r : Judged) : Type 0 where
+pub record JudgesASite (week : Week) (r : Week × Verdict) : Type 0 where
   pub site : Site
   pub judged : (sites : List Site) → week ≡ week_of sites → r ≡ judged_as sites site
 

@@ -2,22 +2,21 @@
 // follows from their events, and a line for each site that is left out or ended in a bad line.
 #![tactic(auto)]
 
-ghost use Rattle.std.specs.Prelude.{◌+◌, ◌*◌, ◌<◌, ◌≤◌, ◌≡◌, length};
-ghost use Rattle.intake.specs.Intake.{Within};
+ghost use Rattle.std.specs.Prelude.{◌*◌, ◌<◌, ◌≤◌, ◌≡◌, length, IfSome};
+ghost use Rattle.intake.specs.Intake.{LieAtStart};
 ghost use Rattle.play.specs.Transcript.{input_limit, output_limit};
 ghost use Rattle.week.specs.Reading.{Sound};
 ghost use Rattle.week.specs.Week.{site_limit};
 ghost use Rattle.sheet_text.specs.Sheet.{remark_limit};
 ghost use Rattle.sheet.specs.Made.{JudgesASite, RemarksASite, MakesASheet};
 
-use intake::Intake;
 use play::{INPUT_LIMIT, OUTPUT_LIMIT};
 use std::env::{Env, FillError};
 use std::fs::File;
 use std::io::{Print, Write};
 use std::rt::Files;
 use std::{io, str};
-use week::{Judged, SITE_LIMIT, Verdict, Week};
+use week::{SITE_LIMIT, Verdict, Week};
 
 // So many bytes hold any path.
 const PATH_LIMIT: usize = 4_096;
@@ -37,12 +36,11 @@ struct Made {
 
 fn main(rt: HostRuntime) {
     // the first argument is the program's own name
-    let given = argument_count(&rt);
-    if given < 2 {
+    let names = argument_count(&rt).saturating_sub(1);
+    if names == 0 {
         let _ = print!(rt; "sheet: no files named");
         return usage(&rt);
     }
-    let names = given - 1;
     let sites = names / 2;
     if names % 2 == 1 {
         let _ = print!(rt; "sheet: an odd number of names, {names}");
@@ -75,9 +73,10 @@ fn usage<R: Print>(rt: &R) {
 fn sheet<R: Env + Files + Print>(rt: &R, sites: usize)
     requires { sites ≤ site_limit }
 {
-    let mut remarks = remarks_buffer();
-    let mut events = events_buffer();
-    let mut output = output_buffer();
+    let mut remarks = [0u8; REMARKS];
+    // one byte longer than what counts, to find a file that is longer
+    let mut events = [0u8; INPUT_LIMIT + 1];
+    let mut output = [0u8; OUTPUT_LIMIT + 1];
     let made = judged_all(rt, sites, &mut remarks, &mut events, &mut output);
     let week = made.week;
     let past = made.past;
@@ -86,26 +85,6 @@ fn sheet<R: Env + Files + Print>(rt: &R, sites: usize)
     let mut out = io::writer(rt);
     let _ = out.write_all(&sums[..written]);
     let _ = out.write_all(&remarks[..past]);
-}
-
-// Zeros for the remarks and for the two files of a site; these one byte longer than what counts, to find a file that is longer. The contracts give the
-// lengths, which no caller's proof then counts out.
-fn remarks_buffer() -> [u8; REMARKS]
-    ensures { site_limit * remark_limit ≡ length result }
-{
-    [0; REMARKS]
-}
-
-fn events_buffer() -> [u8; INPUT_LIMIT + 1]
-    ensures { input_limit + 1 ≡ length result }
-{
-    [0; INPUT_LIMIT + 1]
-}
-
-fn output_buffer() -> [u8; OUTPUT_LIMIT + 1]
-    ensures { output_limit + 1 ≡ length result }
-{
-    [0; OUTPUT_LIMIT + 1]
 }
 
 // So many sites, one after the other, with what is remarked of them. Two buffers are lent for their files.
@@ -124,13 +103,9 @@ fn judged_all<R: Env + Files>(
 {
     let mut week = Week::new();
     let mut past = 0;
-    let mut site = 0;
-    while site < sites {
-        let judged = judge(rt, week, site, events, output);
-        let next = judged.week;
-        let verdict = judged.verdict;
-        site += 1;
-        past = remark(rt, remarks, past, site, verdict);
+    for before in 0..sites {
+        let (next, verdict) = judge(rt, week, before, events, output);
+        past = remark(rt, remarks, past, before + 1, verdict);
         week = next;
     }
     Made { week, past }
@@ -143,7 +118,7 @@ fn judge<R: Env + Files>(
     before: usize,
     events: &mut [u8],
     output: &mut [u8],
-) -> Judged
+) -> (Week, Verdict)
     requires sound { Sound week }
     requires sites_value { week.sites ≡ before }
     requires before_lt_site_limit { before < site_limit }
@@ -151,38 +126,24 @@ fn judge<R: Env + Files>(
     requires output_limit_in_bounds { output_limit < length output.old }
     ensures { JudgesASite week result }
 {
-    let Intake::Bytes(lines) = contents(rt, 2 * before + 1, events) else {
-        let more = week.with_unread();
-        return Judged {
-            week: more,
-            verdict: Verdict::EventsUnread,
-        };
+    let Some(lines) = contents(rt, 2 * before + 1, events) else {
+        return (week.with_unread(), Verdict::EventsUnread);
     };
-    let Intake::Bytes(printed) = contents(rt, 2 * before + 2, output) else {
-        let more = week.with_unread();
-        return Judged {
-            week: more,
-            verdict: Verdict::OutputUnread,
-        };
+    let Some(printed) = contents(rt, 2 * before + 2, output) else {
+        return (week.with_unread(), Verdict::OutputUnread);
     };
     week.with_site(events, lines, output, printed)
 }
 
-// What the file has that an argument names.
-fn contents<R: Env + Files>(rt: &R, i: usize, buffer: &mut [u8]) -> Intake
-    ensures { Within result buffer.new }
+// How many bytes the file has that an argument names, read into the buffer.
+fn contents<R: Env + Files>(rt: &R, i: usize, buffer: &mut [u8]) -> Option<usize>
+    ensures { IfSome result (λ n. LieAtStart n buffer.new) }
 {
     let mut name = [0u8; PATH_LIMIT];
-    let Ok(length) = rt.arg(i, &mut name) else {
-        return Intake::Failed;
-    };
-    let Ok(path) = str::from_utf8(&name[..length]) else {
-        return Intake::Failed;
-    };
-    let Ok(mut file) = File::open(rt, path) else {
-        return Intake::Failed;
-    };
-    intake::whole(&mut file, buffer)
+    let length = rt.arg(i, &mut name).ok()?;
+    let path = str::from_utf8(&name[..length]).ok()?;
+    let mut file = File::open(rt, path).ok()?;
+    intake::whole(&mut file, buffer).ok()
 }
 
 // The remark on a site, with the name of its output. Of a name that is too long for any file, as much is shown as the buffer holds.
