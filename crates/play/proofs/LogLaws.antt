@@ -1,14 +1,15 @@
--- The departures among reports, how they end, and what reports leave in the two buffers of a replay.
+-- The departures among reports, how they end, and what reports leave on the two pages of a replay.
 --     reported_append    reports one behind the other
 --     bad_reported, idle_reported, answer_reported   what is printed of what is no departure
 --     sent_reported      a departure, printed and noted
+--     buffers_kept       each page keeps its buffer
 --     goes_on            no event ends a replay
 --     counts_departures  an event counts the departures that it reports
 use Prim.Native.Nat.{ℕ, ◌+◌}
 use native.Mathlib.Omega.{arith}
 use mathlib.Core.Bool.{Bool, true, false, cond}
 use mathlib.Core.List.{List, [], ◌∷◌, ◌++◌, append-nil, append_assoc}
-use mathlib.Core.Path.{◌≡◌, refl, sym, ap, ap₂, ◌∙◌}
+use mathlib.Core.Path.{◌≡◌, refl, sym, ap, ap₂, ◌∙◌, subst}
 use lib.ListN.{length}
 use lib.Dec.{ltb}
 use Rattle.model.specs.Calls.{opened, offered, departures}
@@ -18,7 +19,10 @@ use Rattle.model.specs.declared.Answer.TheVariants.{Done, Refused}
 use Rattle.lines.specs.declared.Event.{Event}
 use Rattle.lines.specs.declared.Event.TheVariants.{Flow, Arrive, Send}
 use Rattle.print.specs.Page.{Page, put}
-use Rattle.print.proofs.PageLaws.{put_append, length_put}
+use Rattle.print.specs.Puts.{lent, Puts}
+use Rattle.print.specs.declared.Page.{Page as Held}
+use Rattle.print.proofs.PageLaws.{put_append}
+use Rattle.print.proofs.PutsLaws.{puts_nothing}
 use Rattle.play.specs.Story.{Report, bad, refused, sent, idle, Replay, refusal, answered, numbered, departing, sending, happening}
 use Rattle.play.specs.Transcript.{line_of, text_of}
 use Rattle.play.specs.Log.{departures_in, ending_in, log_of}
@@ -45,55 +49,50 @@ unfolding log_of
 log_length [] = refl
 log_length (d ∷ l) = omega (arith, log_length l)
 
--- ---- the two buffers
-
-abbrev pub both : Page → Page → Desk
-both printed log = record { printed = printed; log = log }
+-- ---- the two pages
 
 pub reported_append : (k : Desk) (a b : List Report) → reported k (a ++ b) ≡ reported (reported k a) b
 unfolding reported
 reported_append k a b =
-    ap₂ both
+    ap₂ (λ (printed log : Page ℕ). record k { printed = printed; log = log })
     (ap (put k.printed) (text_append a b) ∙ put_append k.printed (text_of a) (text_of b))
     (ap (λ (l : List Sent). put k.log (log_of l)) (departures_append a b)
     ∙ ap (put k.log) (log_append (departures_in a) (departures_in b))
     ∙ put_append k.log (log_of (departures_in a)) (log_of (departures_in b)))
 
--- The buffers keep their lengths.
-pub reported_keeps : (out' : List ℕ) (past' : ℕ) (log' : List ℕ) (noted' : ℕ) (out : List ℕ) (past : ℕ) (log : List ℕ) (noted : ℕ) (l : List Report)
-    → desk out' past' log' noted' ≡ reported (desk out past log noted) l → (length out' ≡ length out) × (length log' ≡ length log)
-unfolding reported
-reported_keeps out' past' log' noted' out past log noted l e = (
-  length_put out' past' out past (text_of l) (ap (λ (k : Desk). k.printed) e),
-  length_put log' noted' log noted (log_of (departures_in l)) (ap (λ (k : Desk). k.log) e),
-)
-
 pub nothing_reported : (k : Desk) → reported k [] ≡ k
 unfolding reported text_of departures_in log_of put
 nothing_reported k = refl
 
-module _ (k : Desk) {q : Page} where
-  line_reported : (r : Report) → departures_in (r ∷ []) ≡ [] → q ≡ put k.printed (line_of r) → both q k.log ≡ reported k (r ∷ [])
-  unfolding reported log_of put
-  line_reported r none e =
-      ap₂ both (e ∙ ap (put k.printed) (sym (text_of_one r))) (ap (λ (l : List Sent). put k.log (log_of l)) (sym none))
+-- Each page keeps its buffer.
+pub buffers_kept : (page log page' log' : Held ℕ) (l : List Report) → desk page' log' ≡ reported (desk page log) l → (lent page' ≡ lent page) × (lent log' ≡ lent log)
+unfolding reported
+buffers_kept page log page' log' l e = (ap (λ (k : Desk). k.printed_in) e, ap (λ (k : Desk). k.noted_in) e)
 
-  pub bad_reported : (line : ℕ) → q ≡ put k.printed (line_of (bad line)) → both q k.log ≡ reported k (bad line ∷ [])
-  unfolding departures_in
-  bad_reported line e = line_reported (bad line) refl e
+module _ {page page' : Held ℕ} where
+  both_reported : {log log' : Held ℕ} (l : List Report) → Puts (text_of l) page page' → Puts (log_of (departures_in l)) log log' → desk page' log' ≡ reported (desk page log) l
+  unfolding reported
+  both_reported l e f = cc
 
-  pub idle_reported : (n : ℕ) → q ≡ put k.printed (line_of (idle n)) → both q k.log ≡ reported k (idle n ∷ [])
-  unfolding departures_in
-  idle_reported n e = line_reported (idle n) refl e
+  one_reported : {log log' : Held ℕ} (r : Report) → Puts (line_of r) page page' → Puts (log_of (departures_in (r ∷ []))) log log' → desk page' log' ≡ reported (desk page log) (r ∷ [])
+  one_reported r e f = both_reported (r ∷ []) (subst (λ (text : List ℕ). Puts text page page') (sym (text_of_one r)) e) f
 
-  pub answer_reported : (answer : Answer) (line : ℕ) → q ≡ put k.printed (text_of (refusal answer line)) → both q k.log ≡ reported k (refusal answer line)
-  unfolding reported departures_in log_of put
-  answer_reported Done line e = ap₂ both e refl
-  answer_reported (Refused j) line e = ap₂ both e refl
+  pub bad_reported : (log : Held ℕ) (line : ℕ) → Puts (line_of (bad line)) page page' → desk page' log ≡ reported (desk page log) (bad line ∷ [])
+  unfolding departures_in log_of
+  bad_reported log line e = one_reported (bad line) e (puts_nothing log)
 
-  pub sent_reported : {l : Page} (n : ℕ) (d : Sent) → q ≡ put k.printed (line_of (sent n d)) → l ≡ put k.log (d.flow ∷ d.size ∷ []) → both q l ≡ reported k (sent n d ∷ [])
-  unfolding reported departures_in log_of
-  sent_reported n d e f = ap₂ both (e ∙ ap (put k.printed) (sym (text_of_one (sent n d)))) f
+  pub idle_reported : (log : Held ℕ) (n : ℕ) → Puts (line_of (idle n)) page page' → desk page' log ≡ reported (desk page log) (idle n ∷ [])
+  unfolding departures_in log_of
+  idle_reported log n e = one_reported (idle n) e (puts_nothing log)
+
+  pub answer_reported : (log : Held ℕ) (answer : Answer) (line : ℕ) → Puts (text_of (refusal answer line)) page page' → desk page' log ≡ reported (desk page log) (refusal answer line)
+  unfolding departures_in log_of
+  answer_reported log Done line e = both_reported (refusal Done line) e (puts_nothing log)
+  answer_reported log (Refused j) line e = both_reported (refusal (Refused j) line) e (puts_nothing log)
+
+  pub sent_reported : {log log' : Held ℕ} (n : ℕ) (d : Sent) → Puts (line_of (sent n d)) page page' → Puts (d.flow ∷ d.size ∷ []) log log' → desk page' log' ≡ reported (desk page log) (sent n d ∷ [])
+  unfolding departures_in log_of
+  sent_reported n d e f = one_reported (sent n d) e f
 
 -- ---- what an event reports
 

@@ -26,13 +26,16 @@ use Rattle.order.specs.State.{State}
 use Rattle.order.proofs.StateLaws.{seen_as}
 use Rattle.play.specs.Course.{replay_of, asked, Desk, desk, reported, Goes, Tells}
 use Rattle.play.specs.Log.{Ending, departures_in, ending_in, departures_of, ending_of, log_of}
-use Rattle.print.specs.Page.{page, put}
+use Rattle.print.specs.Page.{Page, page}
+use Rattle.print.specs.Puts.{Puts}
+use Rattle.print.specs.declared.Page.{Page as Held}
 use Rattle.play.specs.Script.{script_from, script_of}
 use Rattle.play.specs.Story.{Report, bad, Replay, Happening, new_replay, happening, story}
 use Rattle.play.specs.Transcript.{input_limit, line_of, text_of, reports, transcript}
 use Rattle.play.specs.declared.Course.{Course}
 use Rattle.play.specs.declared.Told.{Told}
 use Rattle.print.proofs.PageLaws.{printed}
+use Rattle.print.proofs.PutsLaws.{Over, over_put}
 use Rattle.play.proofs.LogLaws.{reported_append, nothing_reported, bad_reported, goes_on}
 use Rattle.play.proofs.ScriptLaws.{ends, rest, rest_reads, rest_spoils}
 use Rattle.play.proofs.StoryLaws.{replay, departed_at_most}
@@ -49,41 +52,45 @@ short_reports input h = ap (λ (t : Bool). cond t (bad 0 ∷ []) (story new_repl
 
 -- ---- the whole replay
 
--- What the buffers hold in the end, and how the replay ended, are what it tells.
-pub tells : (input out log : List ℕ) (r : Told) (out' log' : List ℕ) → desk out' r.written log' r.noted ≡ reported (desk out 0 log 0) (reports input) → r.ending ≡ ending_of input
-    → Tells input out log r out' log'
-unfolding reported transcript departures_of
-tells input out log r out' log' e f =
-    record {
-      printed = printed (text_of (reports input)) out out' r.written (ap (λ (k : Desk). k.printed) e);
-      noted = printed (log_of (departures_in (reports input))) log log' r.noted (ap (λ (k : Desk). k.log) e);
-      ended = f;
-    }
+module _ (input : List ℕ) {out log out' log' : List ℕ} (sheet notes sheet' notes' : Held ℕ) (r : Told) (p : Over out out' sheet sheet') (n : Over log log' notes notes') where
+  -- What the pages hold in the end, and how the replay ended, are what it tells.
+  pub tells : desk sheet' notes' ≡ reported (desk sheet notes) (reports input) → r.written ≡ sheet'.past → r.noted ≡ notes'.past → r.ending ≡ ending_of input
+      → Tells input out log r out' log'
+  unfolding reported transcript departures_of
+  tells e w m f =
+      record {
+        printed = printed (text_of (reports input)) out out' r.written (over_put _ p (ap (λ (k : Desk). k.printed) e) w);
+        noted = printed (log_of (departures_in (reports input))) log log' r.noted (over_put _ n (ap (λ (k : Desk). k.log) e) m);
+        ended = f;
+      }
 
-pub too_long_tells : (input out log out' : List ℕ) (past : ℕ) → input_limit < length input → page out' past ≡ put (page out 0) (line_of (bad 0))
-    → Tells input out log (record { written = past; noted = 0; ending = Err (record { 0 = 0 }) }) out' log
+pub too_long_tells : (input : List ℕ) {out log out' log' : List ℕ} (sheet notes sheet' : Held ℕ) (past : ℕ) → Over out out' sheet sheet' → Over log log' notes notes
+    → input_limit < length input → Puts (line_of (bad 0)) sheet sheet' → past ≡ sheet'.past
+    → Tells input out log (record { written = past; noted = 0; ending = Err (record { 0 = 0 }) }) out' log'
 unfolding ending_of ending_in
-too_long_tells input out log out' past h e =
-    tells input out log _ out' log
-    (bad_reported (desk out 0 log 0) 0 e ∙ ap (reported (desk out 0 log 0)) (sym (too_long_reports input h)))
+too_long_tells input sheet notes sheet' past p n h e w =
+    tells input sheet notes sheet' notes _ p n
+    (bad_reported notes 0 e ∙ ap (reported (desk sheet notes)) (sym (too_long_reports input h)))
+    w
+    (sym (ap (λ (k : Page ℕ). k.past) n.empty))
     (ap ending_in (sym (too_long_reports input h)))
 
 -- ---- the loop
 
 -- The replay's reader has come to a place of the input. Every line before it asked for at most 65,535 departures.
-pub record Plays (goal : Desk) (end : Ending) (input out log : List ℕ) (c : Course) (reader : Reader) (line : ℕ) : Type 0 where
+pub record Plays (goal : Desk) (end : Ending) (input : List ℕ) (page log : Held ℕ) (c : Course) (reader : Reader) (line : ℕ) : Type 0 where
   pub reads : reader.input.now ≡ input
   pub sound : Sound c.state
   pub place : reader.at ≤ length input
   pub line_small : line ≤ reader.at + 1
   pub sent_small : c.sent ≤ reader.at * largest
-  pub reports : reported (desk out c.past log c.noted) (story (replay_of c) line (rest input reader.at)) ≡ goal
+  pub reports : reported (desk page log) (story (replay_of c) line (rest input reader.at)) ≡ goal
   pub ends : ending_in (story (replay_of c) line (rest input reader.at)) ≡ end
 
-pub plays_begin : (text : Bor (List ℕ)) (out log : List ℕ) (s : State) → length text.now ≤ input_limit → NewGives s → (reader : Reader) → reader ≡ record { input = text; at = 0 }
-    → Plays (reported (desk out 0 log 0) (reports text.now)) (ending_of text.now) text.now out log (record { state = s; sent = 0; past = 0; noted = 0 }) reader 1
+pub plays_begin : (text : Bor (List ℕ)) (page log : Held ℕ) (s : State) → length text.now ≤ input_limit → NewGives s → (reader : Reader) → reader ≡ record { input = text; at = 0 }
+    → Plays (reported (desk page log) (reports text.now)) (ending_of text.now) text.now page log (record { state = s; sent = 0 }) reader 1
 unfolding replay_of new_replay script_of ending_of
-plays_begin text out log s short g reader first =
+plays_begin text page log s short g reader first =
     subst Begun (sym first)
     (record {
       reads = refl;
@@ -91,7 +98,7 @@ plays_begin text out log s short g reader first =
       place = omega arith;
       line_small = omega arith;
       sent_small = omega arith;
-      reports = ap (reported (desk out 0 log 0)) whole;
+      reports = ap (reported (desk page log)) whole;
       ends = ap ending_in whole;
     })
   where
@@ -99,7 +106,7 @@ plays_begin text out log s short g reader first =
     input = text.now
 
     Begun : Reader → Type 0
-    Begun r = Plays (reported (desk out 0 log 0) (reports input)) (ending_of input) input out log (record { state = s; sent = 0; past = 0; noted = 0 }) r 1
+    Begun r = Plays (reported (desk page log) (reports input)) (ending_of input) input page log (record { state = s; sent = 0 }) r 1
 
     all : length input - 0 ≡ length input
     all = omega arith
@@ -112,30 +119,30 @@ asked_at_most (Flow flow weight) h = omega arith
 asked_at_most (Arrive flow size) h = omega arith
 asked_at_most (Send count) h = h
 
-module _ {goal : Desk} {end : Ending} {input out log : List ℕ} {c : Course} {reader : Reader} {line : ℕ} (h : Plays goal end input out log c reader line)
+module _ {goal : Desk} {end : Ending} {input : List ℕ} {page log : Held ℕ} {c : Course} {reader : Reader} {line : ℕ} (h : Plays goal end input page log c reader line)
     {at_end : Bool} (t : at_end ≡ leb (length reader.input.now) reader.at) where
   -- What is left of the story, once it is known.
-  leads : {l : List Report} → story (replay_of c) line (rest input reader.at) ≡ l → (reported (desk out c.past log c.noted) l ≡ goal) × (ending_in l ≡ end)
-  leads e = (ap (reported (desk out c.past log c.noted)) (sym e) ∙ h.reports, ap ending_in (sym e) ∙ h.ends)
+  leads : {l : List Report} → story (replay_of c) line (rest input reader.at) ≡ l → (reported (desk page log) l ≡ goal) × (ending_in l ≡ end)
+  leads e = (ap (reported (desk page log)) (sym e) ∙ h.reports, ap ending_in (sym e) ∙ h.ends)
 
-  pub plays_end : at_end ≡ true → (desk out c.past log c.noted ≡ goal) × (Ok tt ≡ end)
+  pub plays_end : at_end ≡ true → (desk page log ≡ goal) × (Ok tt ≡ end)
   unfolding story ending_in
   plays_end e =
       let past : length input ≤ reader.at = rw h.reads at (leb-true (length reader.input.now) reader.at (sym t ∙ e)) in
       let l = leads (ap (story (replay_of c) line) (ends input (length input - reader.at) reader.at past)) in
-      (sym (nothing_reported (desk out c.past log c.noted)) ∙ l.0, l.1)
+      (sym (nothing_reported (desk page log)) ∙ l.0, l.1)
 
   module _ (more : at_end ≡ false) {taken : Option Event} {after : Reader} (n : ◌≡◌ {A = Option Event × Reader} (taken, after) (next_of reader)) where
     within : reader.at < length input
     within = rw h.reads at (leb-false (length reader.input.now) reader.at (sym t ∙ more))
 
-    pub plays_bad : {out' : List ℕ} {past' : ℕ} → taken ≡ None → page out' past' ≡ put (page out c.past) (line_of (bad line))
-        → (desk out' past' log c.noted ≡ goal) × (Err (record { 0 = line }) ≡ end)
+    pub plays_bad : {page' : Held ℕ} → taken ≡ None → Puts (line_of (bad line)) page page'
+        → (desk page' log ≡ goal) × (Err (record { 0 = line }) ≡ end)
     unfolding story ending_in
     plays_bad e f =
         let bad_there : line_at input reader.at ≡ None = rw h.reads at (nothing_taken reader n e) in
         let l = leads (ap (story (replay_of c) line) (rest_spoils input reader.at within bad_there)) in
-        (bad_reported (desk out c.past log c.noted) line f ∙ l.0, l.1)
+        (bad_reported log line f ∙ l.0, l.1)
 
     module _ {event : Event} (e : taken ≡ Some event) (short : length input ≤ input_limit) where
       line_there : line_at input reader.at ≡ Some (event, after.at)
@@ -153,9 +160,9 @@ module _ {goal : Desk} {end : Ending} {input out log : List ℕ} {c : Course} {r
       pub may_run : Sound c.state × (c.sent + asked event < 2 ^ 64)
       may_run = (h.sound, omega (arith, few_asked, h.sent_small))
 
-      pub plays_on : {out' log' : List ℕ} {d : Course} → Goes c out log (happening (replay_of c) line event) d out' log' → Plays goal end input out' log' d after (line + 1)
+      pub plays_on : {page' log' : Held ℕ} {d : Course} → Goes c page log (happening (replay_of c) line event) d page' log' → Plays goal end input page' log' d after (line + 1)
       unfolding story replay_of
-      plays_on {out'} {log'} {d} g =
+      plays_on {page'} {log'} {d} g =
           record {
             reads = ap (λ (text : Bor (List ℕ)). text.now) (event_taken reader n e).1 ∙ h.reads;
             sound = g.sound;
@@ -164,7 +171,7 @@ module _ {goal : Desk} {end : Ending} {input out log : List ℕ} {c : Course} {r
             sent_small = few;
             reports =
                 ap₂ (λ (k : Desk) (r : Replay). reported k (story r (line + 1) (rest input after.at))) g.reports g.arrives
-                ∙ sym (reported_append (desk out c.past log c.noted) x.reports further)
+                ∙ sym (reported_append (desk page log) x.reports further)
                 ∙ left.0;
             ends = ap (λ (r : Replay). ending_in (story r (line + 1) (rest input after.at))) g.arrives ∙ sym (goes_on (replay_of c) line event further) ∙ left.1;
           }
@@ -175,7 +182,7 @@ module _ {goal : Desk} {end : Ending} {input out log : List ℕ} {c : Course} {r
           further : List Report
           further = story x.after (line + 1) (rest input after.at)
 
-          left : (reported (desk out c.past log c.noted) (x.reports ++ further) ≡ goal) × (ending_in (x.reports ++ further) ≡ end)
+          left : (reported (desk page log) (x.reports ++ further) ≡ goal) × (ending_in (x.reports ++ further) ≡ end)
           left = leads (ap (story (replay_of c) line) (rest_reads input reader.at within line_there))
 
           sent_is : d.sent ≡ x.after.departed

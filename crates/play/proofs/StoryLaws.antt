@@ -3,7 +3,7 @@ use Prim.Native.Nat.{ℕ, zero, suc, ◌+◌, ◌≤◌}
 use native.Mathlib.Omega.{arith}
 use mathlib.Core.Bool.{Bool, cond}
 use mathlib.Core.List.{List, [], ◌∷◌, ◌++◌, append-nil, append_assoc}
-use mathlib.Core.Path.{◌≡◌, refl, sym, ap, ap₂, ◌∙◌}
+use mathlib.Core.Path.{◌≡◌, refl, sym, ap, ap₂, ◌∙◌, subst}
 use lib.ListN.{length}
 use lib.Dec.{leb-suc-suc}
 use borrow.Author.Tests.{lt-ltb}
@@ -18,7 +18,9 @@ use Rattle.order.proofs.BurstLaws.{NoDeparture, no_departure_ends}
 use Rattle.lines.specs.declared.Event.{Event}
 use Rattle.lines.specs.declared.Event.TheVariants.{Flow, Arrive, Send}
 use Rattle.play.specs.Course.{asked}
-use Rattle.print.specs.Page.{Page, put}
+use Rattle.print.specs.Puts.{Puts}
+use Rattle.print.specs.declared.Page.{Page as Held}
+use Rattle.print.proofs.PutsLaws.{puts_nothing}
 use Rattle.play.specs.Story.{Report, refused, sent, idle, Replay, refusal, answered, numbered, departing, sending, happening}
 use Rattle.play.specs.Transcript.{line_of, text_of}
 
@@ -35,13 +37,13 @@ text_of_one r = append-nil (line_of r)
 
 -- ---- an answer
 
-pub nothing_printed : (p : Page) (answer : Answer) (line : ℕ) → answer ≡ Done → p ≡ put p (text_of (refusal answer line))
-unfolding put text_of
-nothing_printed p answer line e = ap (λ (a : Answer). put p (text_of (refusal a line))) (sym e)
+pub nothing_printed : (p : Held ℕ) (answer : Answer) (line : ℕ) → answer ≡ Done → Puts (text_of (refusal answer line)) p p
+unfolding text_of
+nothing_printed p answer line e = subst (λ (a : Answer). Puts (text_of (refusal a line)) p p) (sym e) (puts_nothing p)
 
-pub refusal_printed : (p : Page) {q : Page} (answer : Answer) (k line : ℕ) → answer ≡ Refused k → q ≡ put p (line_of (refused k line)) → q ≡ put p (text_of (refusal answer line))
-refusal_printed p answer k line e f =
-    f ∙ ap (put p) (sym (text_of_one (refused k line)) ∙ ap (λ (a : Answer). text_of (refusal a line)) (sym e))
+pub refusal_printed : {p q : Held ℕ} (answer : Answer) (k line : ℕ) → answer ≡ Refused k → Puts (line_of (refused k line)) p q → Puts (text_of (refusal answer line)) p q
+refusal_printed {p} {q} answer k line e f =
+    subst (λ (text : List ℕ). Puts text p q) (sym (text_of_one (refused k line)) ∙ ap (λ (a : Answer). text_of (refusal a line)) (sym e)) f
 
 -- ---- departures
 

@@ -1,9 +1,12 @@
 -- How far a replay has come, as code keeps it, and what an event makes of it; and what the whole replay gives.
 use Rattle.std.specs.Prelude.{ℕ, List, ◌≡◌}
+use Rattle.std.specs.Borrow.{GName}
 use Rattle.lines.specs.declared.Event.{Event}
 use Rattle.lines.specs.declared.Event.TheVariants.{Flow, Arrive, Send}
 use Rattle.order.specs.Encoding.{view, Sound}
-use Rattle.print.specs.Page.{Page, page, put, Printed}
+use Rattle.print.specs.Page.{Page, put, Printed}
+use Rattle.print.specs.Puts.{lent, stands_for}
+use Rattle.print.specs.declared.Page.{Page as Held}
 use Rattle.play.specs.Story.{Report, Replay, Happening}
 use Rattle.play.specs.Transcript.{text_of, transcript}
 use Rattle.play.specs.Log.{departures_in, departures_of, ending_of, log_of}
@@ -20,20 +23,22 @@ asked (Flow flow weight) = 0
 asked (Arrive flow size) = 0
 asked (Send count) = count
 
--- The two buffers of a replay: what is reported is printed in one, and its departures are noted in the other.
+-- The two pages of a replay: what is reported is printed on one, and its departures are noted on the other. Each keeps the buffer that is lent to it.
 pub record Desk : Type 0 where
-  pub printed : Page
-  pub log : Page
+  pub printed : Page ℕ
+  pub log : Page ℕ
+  pub printed_in : GName
+  pub noted_in : GName
 
-abbrev pub desk : List ℕ → ℕ → List ℕ → ℕ → Desk
-desk out past log noted = record { printed = page out past; log = page log noted }
+abbrev pub desk : Held ℕ → Held ℕ → Desk
+desk page log = record { printed = stands_for page; log = stands_for log; printed_in = lent page; noted_in = lent log }
 
 unfoldable pub reported : Desk → List Report → Desk
-reported k reports = record { printed = put k.printed (text_of reports); log = put k.log (log_of (departures_in reports)) }
+reported k reports = record k { printed = put k.printed (text_of reports); log = put k.log (log_of (departures_in reports)) }
 
 -- From one course and desk to the next: what happens is reported behind what was reported before.
-pub record Goes (c : Course) (out log : List ℕ) (h : Happening) (next : Course) (out' log' : List ℕ) : Type 0 where
-  pub reports : desk out' next.past log' next.noted ≡ reported (desk out c.past log c.noted) h.reports
+pub record Goes (c : Course) (page log : Held ℕ) (h : Happening) (next : Course) (page' log' : Held ℕ) : Type 0 where
+  pub reports : desk page' log' ≡ reported (desk page log) h.reports
   pub arrives : replay_of next ≡ h.after
   pub sound : Sound next.state
 

@@ -5,13 +5,15 @@ ghost use Rattle.std.specs.Prelude.{◌≡◌, ◌+◌, ◌≤◌, ◌<◌, ◌^
 ghost use Rattle.order.specs.Encoding.{Sound};
 ghost use Rattle.play.specs.Course.{replay_of, asked, desk, reported, Goes, Tells};
 ghost use Rattle.play.specs.Log.{ending_of};
-ghost use Rattle.print.specs.Page.{page, put, Printed, PrintedWhole};
+ghost use Rattle.print.specs.Page.{Printed, PrintedWhole};
+ghost use Rattle.print.specs.Puts.{Puts};
 ghost use Rattle.play.specs.Story.{refusal, sending, happening};
 ghost use Rattle.play.specs.Transcript.{input_limit, output_limit, text_of, reports, transcript};
 
 use lines::Event;
 use model::{Answer, Reply};
 use order::State;
+use print::Page;
 use reader::Reader;
 
 mod log;
@@ -37,13 +39,11 @@ pub struct Told {
     pub ending: Result<(), BadLine>,
 }
 
-// How far a replay has come: the scheduler, the departures so far, and the places up to which the buffer and the log are written.
+// How far a replay has come: the scheduler and the departures so far.
 #[derive(Clone, Copy)]
 struct Course {
     state: State,
     sent: usize,
-    past: usize,
-    noted: usize,
 }
 
 // The replay of an input, printed into a buffer from its start; answers with the number of bytes.
@@ -67,131 +67,102 @@ pub fn transcribe(input: &[u8], out: &mut [u8]) -> usize
 pub fn tell(input: &[u8], out: &mut [u8], log: &mut [u16]) -> Told
     ensures { Tells input.now out.old log.old result out.new log.new }
 {
+    let mut page = Page::new(out);
+    let mut notes = Page::new(log);
     if INPUT_LIMIT < input.len() {
-        let written = report::bad_line(out, 0, 0);
+        report::bad_line(&mut page, 0);
         return Told {
-            written,
+            written: page.past(),
             noted: 0,
             ending: Err(BadLine(0)),
         };
     }
-    replay(input, out, log)
+    let ending = replay(input, &mut page, &mut notes);
+    Told {
+        written: page.past(),
+        noted: notes.past(),
+        ending,
+    }
 }
 
 // The replay of an input that is not too long, line by line.
-fn replay(input: &[u8], out: &mut [u8], log: &mut [u16]) -> Told
+fn replay(
+    input: &[u8],
+    page: &mut Page<'_, u8>,
+    log: &mut Page<'_, u16>,
+) -> Result<(), BadLine>
     requires { length input.now ≤ input_limit }
-    ensures noted_after { desk out.new result.written log.new result.noted ≡ reported (desk out.old 0 log.old 0) (reports input.now) }
-    ensures ending_value { result.ending ≡ ending_of input.now }
+    ensures noted_after { desk page.new log.new ≡ reported (desk page.old log.old) (reports input.now) }
+    ensures ending_value { result ≡ ending_of input.now }
 {
-    let state = State::new();
     let mut course = Course {
-        state,
+        state: State::new(),
         sent: 0,
-        past: 0,
-        noted: 0,
     };
     let mut reader = Reader::new(input);
     let mut line = 1;
     while !reader.is_at_end() {
         let Some(event) = reader.next() else {
-            let written = report::bad_line(out, course.past, line);
-            return Told {
-                written,
-                noted: course.noted,
-                ending: Err(BadLine(line)),
-            };
+            report::bad_line(page, line);
+            return Err(BadLine(line));
         };
-        course = run(out, log, course, event, line);
+        run(&mut course, page, log, event, line);
         line += 1;
     }
-    Told {
-        written: course.past,
-        noted: course.noted,
-        ending: Ok(()),
-    }
+    Ok(())
 }
 
 // One event, on the line with this number.
-fn run(out: &mut [u8], log: &mut [u16], c: Course, event: Event, line: usize) -> Course
-    requires sound { Sound c.state }
-    requires event_bound { c.sent + asked event < 2 ^ 64 }
-    ensures { Goes c out.old log.old (happening (replay_of c) line event) result out.new log.new }
+fn run(
+    course: &mut Course,
+    page: &mut Page<'_, u8>,
+    log: &mut Page<'_, u16>,
+    event: Event,
+    line: usize,
+)
+    requires sound { Sound course.old.state }
+    requires event_bound { course.old.sent + asked event < 2 ^ 64 }
+    ensures { Goes course.old page.old log.old (happening (replay_of course.old) line event) course.new page.new log.new }
 {
     match event {
         Event::Flow(flow, weight) => {
-            let state = c.state;
-            let answered = state.open(flow, weight);
-            let answer = answered.answer;
-            let past = answer_line(out, c.past, answer, line);
-            let after = answered.state;
-            Course {
-                state: after,
-                sent: c.sent,
-                past,
-                noted: c.noted,
-            }
+            let answered = course.state.open(flow, weight);
+            course.state = answered.state;
+            answer_line(page, answered.answer, line);
         }
         Event::Arrive(flow, size) => {
-            let state = c.state;
-            let answered = state.offer(flow, size);
-            let answer = answered.answer;
-            let past = answer_line(out, c.past, answer, line);
-            let after = answered.state;
-            Course {
-                state: after,
-                sent: c.sent,
-                past,
-                noted: c.noted,
-            }
+            let answered = course.state.offer(flow, size);
+            course.state = answered.state;
+            answer_line(page, answered.answer, line);
         }
-        Event::Send(count) => send(out, log, c, count),
+        Event::Send(count) => send(course, page, log, count),
     }
 }
 
 // The line of an answer: only a refusal has one.
-fn answer_line(out: &mut [u8], at: usize, answer: Answer, line: usize) -> usize
-    ensures { page out.new result ≡ put (page out.old at) (text_of (refusal answer line)) }
+fn answer_line(page: &mut Page<'_, u8>, answer: Answer, line: usize)
+    ensures { Puts (text_of (refusal answer line)) page.old page.new }
 {
-    match answer {
-        Answer::Done => at,
-        Answer::Refused(refusal) => report::refused_line(out, at, refusal as usize, line),
+    if let Answer::Refused(refusal) = answer {
+        report::refused_line(page, refusal as usize, line);
     }
 }
 
 // Up to so many departures, ending at the first idle.
-fn send(out: &mut [u8], log: &mut [u16], c: Course, count: usize) -> Course
-    requires sound { Sound c.state }
-    requires count_bound { c.sent + count < 2 ^ 64 }
-    ensures { Goes c out.old log.old (sending (replay_of c) count) result out.new log.new }
+fn send(course: &mut Course, page: &mut Page<'_, u8>, log: &mut Page<'_, u16>, count: usize)
+    requires sound { Sound course.old.state }
+    requires count_bound { course.old.sent + count < 2 ^ 64 }
+    ensures { Goes course.old page.old log.old (sending (replay_of course.old) count) course.new page.new log.new }
 {
-    let mut state = c.state;
-    let mut sent = c.sent;
-    let mut past = c.past;
-    let mut noted = c.noted;
-    let mut left = count;
-    while 0 < left {
-        let departed = state.depart();
-        state = departed.state;
-        let reply = departed.reply;
-        let Reply::Departure(packet) = reply else {
-            past = report::idle_line(out, past, sent);
-            return Course {
-                state,
-                sent,
-                past,
-                noted,
-            };
+    for _ in 0..count {
+        let departed = course.state.depart();
+        course.state = departed.state;
+        let Reply::Departure(packet) = departed.reply else {
+            report::idle_line(page, course.sent);
+            return;
         };
-        sent += 1;
-        past = report::sent_line(out, past, sent, packet);
-        noted = log::note(log, noted, packet);
-        left -= 1;
-    }
-    Course {
-        state,
-        sent,
-        past,
-        noted,
+        course.sent += 1;
+        report::sent_line(page, course.sent, packet);
+        log::note(log, packet);
     }
 }

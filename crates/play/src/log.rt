@@ -1,25 +1,14 @@
-// Departures noted in a log from a place on. Each function answers with the place just past what it noted; what does not fit is left off.
-ghost use Rattle.std.specs.Prelude.{[], ◌∷◌, ◌≡◌};
-ghost use Rattle.print.specs.Page.{page, put};
+// Departures noted in a log.
+ghost use Rattle.std.specs.Prelude.{[], ◌∷◌};
+ghost use Rattle.print.specs.Puts.{Puts};
 
 use model::Sent;
+use print::Page;
 
 // The flow and the size of a departure.
-pub fn note(log: &mut [u16], at: usize, packet: Sent) -> usize
-    ensures { page log.new result ≡ put (page log.old at) (packet.flow ∷ packet.size ∷ []) }
+pub fn note(log: &mut Page<'_, u16>, packet: Sent)
+    ensures { Puts (packet.flow ∷ packet.size ∷ []) log.old log.new }
 {
-    let flow = number(log, at, packet.flow as u16);
-    number(log, flow, packet.size)
-}
-
-// One number, where there is room for it.
-fn number(log: &mut [u16], at: usize, n: u16) -> usize
-    ensures { page log.new result ≡ put (page log.old at) (n ∷ []) }
-{
-    if at < log.len() {
-        log[at] = n;
-        at + 1
-    } else {
-        at
-    }
+    log.push(packet.flow as u16);
+    log.push(packet.size);
 }

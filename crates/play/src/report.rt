@@ -1,48 +1,47 @@
-// The lines that report what happens, each put into a buffer from a place on. Each function answers with the place just past its line.
-ghost use Rattle.std.specs.Prelude.{◌≡◌};
-ghost use Rattle.print.specs.Page.{page, put};
+// The lines that report what happens, each put on a page.
 ghost use Rattle.play.specs.Story.{bad, refused, sent, idle};
 ghost use Rattle.play.specs.Transcript.{reply_text, line_of};
+ghost use Rattle.print.specs.Puts.{Puts};
 
 use model::Sent;
-use print::{byte, field};
+use print::Page;
 
-pub fn bad_line(out: &mut [u8], at: usize, line: usize) -> usize
-    ensures { page out.new result ≡ put (page out.old at) (line_of (bad line)) }
+pub fn bad_line(page: &mut Page<'_, u8>, line: usize)
+    ensures { Puts (line_of (bad line)) page.old page.new }
 {
-    let end = field(out, at, b"bad=", line);
-    byte(out, end, b'\n')
+    page.field(b"bad=", line);
+    page.push(b'\n');
 }
 
-pub fn refused_line(out: &mut [u8], at: usize, refusal: usize, line: usize) -> usize
-    ensures { page out.new result ≡ put (page out.old at) (line_of (refused refusal line)) }
+pub fn refused_line(page: &mut Page<'_, u8>, refusal: usize, line: usize)
+    ensures { Puts (line_of (refused refusal line)) page.old page.new }
 {
-    let numbered = field(out, at, b"refused=", refusal);
-    let end = field(out, numbered, b" line=", line);
-    byte(out, end, b'\n')
+    page.field(b"refused=", refusal);
+    page.field(b" line=", line);
+    page.push(b'\n');
 }
 
-pub fn idle_line(out: &mut [u8], at: usize, departed: usize) -> usize
-    ensures { page out.new result ≡ put (page out.old at) (line_of (idle departed)) }
+pub fn idle_line(page: &mut Page<'_, u8>, departed: usize)
+    ensures { Puts (line_of (idle departed)) page.old page.new }
 {
-    let end = field(out, at, b"idle=", departed);
-    byte(out, end, b'\n')
+    page.field(b"idle=", departed);
+    page.push(b'\n');
 }
 
-pub fn sent_line(out: &mut [u8], at: usize, number: usize, packet: Sent) -> usize
-    ensures { page out.new result ≡ put (page out.old at) (line_of (sent number packet)) }
+pub fn sent_line(page: &mut Page<'_, u8>, number: usize, packet: Sent)
+    ensures { Puts (line_of (sent number packet)) page.old page.new }
 {
-    let numbered = field(out, at, b"sent=", number);
-    let end = reply(out, numbered, packet);
-    byte(out, end, b'\n')
+    page.field(b"sent=", number);
+    reply(page, packet);
+    page.push(b'\n');
 }
 
 // What the reply of a departure tells.
-fn reply(out: &mut [u8], at: usize, packet: Sent) -> usize
-    ensures { page out.new result ≡ put (page out.old at) (reply_text packet) }
+fn reply(page: &mut Page<'_, u8>, packet: Sent)
+    ensures { Puts (reply_text packet) page.old page.new }
 {
-    let flow = field(out, at, b" flow=", packet.flow as usize);
-    let size = field(out, flow, b" size=", packet.size as usize);
-    let mark = field(out, size, b" mark=", packet.mark as usize);
-    field(out, mark, b" allow=", packet.allowance as usize)
+    page.field(b" flow=", packet.flow as usize);
+    page.field(b" size=", packet.size as usize);
+    page.field(b" mark=", packet.mark as usize);
+    page.field(b" allow=", packet.allowance as usize);
 }

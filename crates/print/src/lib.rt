@@ -1,50 +1,70 @@
-// Text put into a buffer from a place on. Each function answers with the place just past what it put; what does not fit is left off.
+// A page: a buffer into which items are put one behind the other, from its start. What does not fit is left off.
 #![tactic(auto)]
 
 ghost use Rattle.std.specs.Prelude.{[], ◌∷◌, ◌++◌, ◌≡◌};
 ghost use Rattle.lines.specs.Written.{decimal as decimal_of};
-ghost use Rattle.print.specs.Page.{page, put};
+ghost use Rattle.print.specs.Page.{page};
+ghost use Rattle.print.specs.Puts.{lent, stands_for, Puts};
 
-// A name and the number right behind it.
-pub fn field(out: &mut [u8], at: usize, name: &[u8], number: usize) -> usize
-    ensures { page out.new result ≡ put (page out.old at) (name.now ++ decimal_of number) }
-{
-    let end = word(out, at, name);
-    decimal(out, end, number)
+// A buffer that is lent, and the place up to which it is written.
+#[derive(Drop)]
+pub struct Page<'a, T> {
+    out: &'a mut [T],
+    past: usize,
 }
 
-// The digits of a number: those of its tenth, and the last one.
-pub fn decimal(out: &mut [u8], at: usize, number: usize) -> usize
-    ensures { page out.new result ≡ put (page out.old at) (decimal_of number) }
-{
-    if number < 10 {
-        return byte(out, at, b'0' + number as u8);
+impl<'a, T: Copy> Page<'a, T> {
+    // The empty page over a buffer.
+    pub fn new(out: &'a mut [T]) -> Self
+        ensures same_buffer { lent result ≡ out.entry.ghost_name }
+        ensures empty { stands_for result ≡ page out.old 0 }
+    {
+        Page { out, past: 0 }
     }
-    let end = decimal(out, at, number / 10);
-    byte(out, end, b'0' + (number % 10) as u8)
-}
 
-// The bytes of a text, one behind the other.
-pub fn word(out: &mut [u8], at: usize, text: &[u8]) -> usize
-    ensures { page out.new result ≡ put (page out.old at) text.now }
-{
-    let mut end = at;
-    let mut i = 0;
-    while i < text.len() {
-        end = byte(out, end, text[i]);
-        i += 1;
+    // The place just past what is written.
+    pub fn past(&self) -> usize
+        ensures { result ≡ (stands_for self.now).past }
+    {
+        self.past
     }
-    end
+
+    // One item, where there is room for it.
+    pub fn push(&mut self, item: T)
+        ensures { Puts (item ∷ []) self.old self.new }
+    {
+        if self.past < self.out.len() {
+            self.out[self.past] = item;
+            self.past += 1;
+        }
+    }
 }
 
-// One byte, where there is room for it.
-pub fn byte(out: &mut [u8], at: usize, b: u8) -> usize
-    ensures { page out.new result ≡ put (page out.old at) (b ∷ []) }
-{
-    if at < out.len() {
-        out[at] = b;
-        at + 1
-    } else {
-        at
+impl Page<'_, u8> {
+    // The bytes of a text, one behind the other.
+    pub fn word(&mut self, text: &[u8])
+        ensures { Puts text.now self.old self.new }
+    {
+        for byte in text {
+            self.push(*byte);
+        }
+    }
+
+    // The digits of a number: those of its tenth, and the last one.
+    pub fn decimal(&mut self, number: usize)
+        ensures { Puts (decimal_of number) self.old self.new }
+    {
+        if 10 <= number {
+            self.decimal(number / 10);
+        }
+        self.push(b'0' + (number % 10) as u8);
+    }
+
+    // A name and the number right behind it.
+    pub fn field(&mut self, name: &[u8], number: usize)
+        ensures { Puts (name.now ++ decimal_of number) self.old self.new }
+    {
+        self.word(name);
+        self.decimal(number);
     }
 }

@@ -4,10 +4,12 @@
 use Prim.Native.Nat.{ℕ, ◌+◌, ◌*◌, ◌≤◌}
 use native.Mathlib.Omega.{arith}
 use mathlib.Core.List.{List, [], ◌∷◌, ◌++◌}
-use mathlib.Core.Path.{◌≡◌, refl, sym, ap, ap₂, ◌∙◌}
+use mathlib.Core.Path.{◌≡◌, refl, sym, ap, ap₂, ◌∙◌, subst}
 use lib.ListN.{length, take, length-append}
-use Rattle.print.specs.Page.{Page, page, put}
-use Rattle.print.proofs.PageLaws.{put_append, printed, printed_whole}
+use Rattle.print.specs.Puts.{Puts}
+use Rattle.print.specs.declared.Page.{Page as Held}
+use Rattle.print.proofs.PageLaws.{printed, printed_whole}
+use Rattle.print.proofs.PutsLaws.{puts_nothing, puts_behind, Over, over_put}
 use Rattle.week.specs.Site.{events_unread, output_unread, files, verdict_of}
 use Rattle.week.specs.Week.{site_limit, week_of}
 use Rattle.week.specs.Reading.{Sound, GivesUnread, GivesSite, judged_as}
@@ -47,38 +49,33 @@ unfolding ShortNames
 short_snoc [] n s h = (h, tt)
 short_snoc (m ∷ week) n s h = (s.0, short_snoc week n s.1 h)
 
--- The sheet of the sites so far, the remarks put behind one another into a buffer.
-pub record Making (before : List ℕ) (site : ℕ) (remarks : List ℕ) (week : Week) (past : ℕ) : Type 0 where
+-- The sheet of the sites so far, the remarks put behind one another on a page.
+pub record Making (first : Held ℕ) (site : ℕ) (page : Held ℕ) (week : Week) : Type 0 where
   pub named : List Named
   pub as_many : length named ≡ site
   pub short : ShortNames named
   pub sums : week ≡ week_of (sites_of named)
-  pub puts : page remarks past ≡ put (page before 0) (remarks_after 0 named)
+  pub puts : Puts (remarks_after 0 named) first page
 
-pub making_begin : (before : List ℕ) {week : Week} → week ≡ week_of [] → Making before 0 before week 0
-unfolding ShortNames sites_of remarks_after put
-making_begin before e = record { named = []; as_many = refl; short = tt; sums = e; puts = refl }
+pub making_begin : (first : Held ℕ) {week : Week} → week ≡ week_of [] → Making first 0 first week
+unfolding ShortNames sites_of remarks_after
+making_begin first e = record { named = []; as_many = refl; short = tt; sums = e; puts = puts_nothing first }
 
-module _ {before remarks : List ℕ} {site past : ℕ} {week : Week} (h : Making before site remarks week past) where
+module _ {first page : Held ℕ} {site : ℕ} {week : Week} (h : Making first site page week) where
   pub making_sites : week.sites ≡ site
   making_sites = sites_are (sites_of h.named) h.sums ∙ sites_length h.named ∙ h.as_many
 
   pub making_sound : site ≤ site_limit → Sound week
   making_sound l = record { over = sites_of h.named; is = h.sums; within = omega (arith, sites_length h.named, h.as_many) }
 
-  pub making_on : {r : Week × Verdict} {remarks' : List ℕ} {past' : ℕ} → JudgesASite week r → RemarksASite (site + 1) r.1 remarks past remarks' past'
-      → Making before (site + 1) remarks' r.0 past'
-  making_on {r} {remarks'} {past'} j k =
+  pub making_on : {r : Week × Verdict} {page' : Held ℕ} → JudgesASite week r → RemarksASite (site + 1) r.1 page page' → Making first (site + 1) page' r.0
+  making_on {r} {page'} j k =
       record {
         named = h.named ++ one ∷ [];
         as_many = omega (arith, length-append h.named (one ∷ []), h.as_many);
         short = short_snoc h.named one h.short k.short;
         sums = judged_week (sites_of h.named) j.site judged ∙ ap week_of (sym (sites_snoc h.named one));
-        puts =
-            k.puts
-            ∙ ap₂ (λ (p : Page) (v : Verdict). put p (remark_text (site + 1) v k.name)) h.puts (judged_verdict (sites_of h.named) j.site judged)
-            ∙ sym (put_append (page before 0) (remarks_after 0 h.named) (remark_text (site + 1) (verdict_of j.site) k.name))
-            ∙ ap (put (page before 0)) (ap (λ (n : ℕ). remarks_after 0 h.named ++ remark_text n (verdict_of j.site) k.name) number ∙ sym (remarks_snoc 0 h.named one));
+        puts = subst (λ (text : List ℕ). Puts text first page') remarked (puts_behind h.puts k.puts);
       }
     where
       one : Named
@@ -90,13 +87,19 @@ module _ {before remarks : List ℕ} {site past : ℕ} {week : Week} (h : Making
       judged : r ≡ judged_as (sites_of h.named) j.site
       judged = j.judged (sites_of h.named) h.sums
 
-  pub making_end : (sites : ℕ) → site ≡ sites → sites ≤ site_limit → site_limit * remark_limit ≤ length before → MakesASheet sites before remarks (record { week = week; past = past })
-  making_end sites e l room =
+      remarked : remarks_after 0 h.named ++ remark_text (site + 1) r.verdict k.name ≡ remarks_after 0 (h.named ++ one ∷ [])
+      remarked =
+          ap₂ (λ (n : ℕ) (v : Verdict). remarks_after 0 h.named ++ remark_text n v k.name) number (judged_verdict (sites_of h.named) j.site judged)
+          ∙ sym (remarks_snoc 0 h.named one)
+
+  pub making_end : (sites : ℕ) {before after : List ℕ} {past : ℕ} → site ≡ sites → sites ≤ site_limit → site_limit * remark_limit ≤ length before → Over before after first page → past ≡ page.past
+      → MakesASheet sites before after (record { week = week; past = past })
+  making_end sites {before} {after} {past} e l room over p =
       record {
         named = h.named;
         as_many = h.as_many ∙ e;
         sums = h.sums;
-        remarks = printed_whole fits (printed (remarks_after 0 h.named) before remarks past h.puts);
+        remarks = printed_whole fits (printed (remarks_after 0 h.named) before after past (over_put (remarks_after 0 h.named) over h.puts.puts p));
       }
     where
       fits : length (remarks_after 0 h.named) ≤ length before

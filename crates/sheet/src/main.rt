@@ -11,6 +11,7 @@ ghost use Rattle.sheet_text.specs.Sheet.{remark_limit};
 ghost use Rattle.sheet.specs.Made.{JudgesASite, RemarksASite, MakesASheet};
 
 use play::{INPUT_LIMIT, OUTPUT_LIMIT};
+use print::Page;
 use std::env::{Env, FillError};
 use std::fs::File;
 use std::io::{Print, Write};
@@ -81,7 +82,9 @@ fn sheet<R: Env + Files + Print>(rt: &R, sites: usize)
     let week = made.week;
     let past = made.past;
     let mut sums = [0u8; SUMS];
-    let written = sheet_text::sums(&mut sums, week);
+    let mut page = Page::new(&mut sums);
+    sheet_text::sums(&mut page, week);
+    let written = page.past();
     let mut out = io::writer(rt);
     let _ = out.write_all(&sums[..written]);
     let _ = out.write_all(&remarks[..past]);
@@ -101,14 +104,17 @@ fn judged_all<R: Env + Files>(
     requires output_limit_in_bounds { output_limit < length output.old }
     ensures { MakesASheet sites remarks.old remarks.new result }
 {
+    let mut page = Page::new(remarks);
     let mut week = Week::new();
-    let mut past = 0;
     for before in 0..sites {
         let (next, verdict) = judge(rt, week, before, events, output);
-        past = remark(rt, remarks, past, before + 1, verdict);
+        remark(rt, &mut page, before + 1, verdict);
         week = next;
     }
-    Made { week, past }
+    Made {
+        week,
+        past: page.past(),
+    }
 }
 
 // The site behind the first so many.
@@ -147,9 +153,9 @@ fn contents<R: Env + Files>(rt: &R, i: usize, buffer: &mut [u8]) -> Option<usize
 }
 
 // The remark on a site, with the name of its output. Of a name that is too long for any file, as much is shown as the buffer holds.
-fn remark<R: Env>(rt: &R, remarks: &mut [u8], at: usize, site: usize, verdict: Verdict) -> usize
+fn remark<R: Env>(rt: &R, page: &mut Page<'_, u8>, site: usize, verdict: Verdict)
     requires { site ≤ site_limit }
-    ensures { RemarksASite site verdict remarks.old at remarks.new result }
+    ensures { RemarksASite site verdict page.old page.new }
 {
     let mut name = [0u8; PATH_LIMIT];
     let length = match rt.arg(2 * site, &mut name) {
@@ -157,5 +163,5 @@ fn remark<R: Env>(rt: &R, remarks: &mut [u8], at: usize, site: usize, verdict: V
         Err(FillError::TooLong) => PATH_LIMIT,
         Err(FillError::NotPresent) => 0,
     };
-    sheet_text::remark(remarks, at, site, verdict, &name[..length])
+    sheet_text::remark(page, site, verdict, &name[..length]);
 }

@@ -1,17 +1,20 @@
 -- A name shown byte by byte, and what is said of a site, put one behind the other, are the remark on the site.
-use Prim.Native.Nat.{ℕ, suc, ◌+◌, ◌<◌, ◌≤◌}
-use native.Mathlib.Numerals.{add-one}
+use Prim.Native.Nat.{ℕ, ◌+◌, ◌<◌, ◌≤◌}
+use native.Mathlib.Omega.{arith}
+use Rattle.std.proofs.Common.{inl, inr}
 use mathlib.Core.Bool.{Bool, cond, ◌||◌}
 use mathlib.Core.List.{List, [], ◌∷◌, ◌++◌, map}
-use mathlib.Core.Path.{◌≡◌, sym, ap, ap₂, ◌∙◌}
-use lib.ListN.{length, get_or, drop, drop_of_length-le}
+use mathlib.Core.Path.{◌≡◌, sym, ap, ap₂, ◌∙◌, subst}
+use lib.ListN.{length, get_or, take}
+use Rattle.std.proofs.lemmas.List.{take_more, map-append}
 use lib.Dec.{ltb, eqb}
-use lib.Seq.{drop-cons}
+use Rattle.std.specs.Char.{IsAsciiControl, IsNotAsciiControl}
 use borrow.Author.Tests.{lt-ltb, le-ltb, eq-eqb, ne_eqb}
 use Rattle.lines.specs.Text.{bytes}
 use Rattle.lines.specs.Written.{field}
-use Rattle.print.specs.Page.{Page, put}
-use Rattle.print.proofs.PageLaws.{put_append, put_behind}
+use Rattle.print.specs.Puts.{Puts}
+use Rattle.print.specs.declared.Page.{Page as Held}
+use Rattle.print.proofs.PutsLaws.{puts_nothing, puts_behind}
 use Rattle.week.specs.declared.Verdict.{Verdict}
 use Rattle.week.specs.declared.Verdict.TheVariants.{Follows, Ended, Differs, EventsUnread, OutputUnread}
 use Rattle.sheet_text.specs.Sheet.{shown, name_text, remark_text}
@@ -33,50 +36,55 @@ module _ (byte : ℕ) where
   pub other_shown : 32 ≤ byte → (byte ≡ 127 → ⊥) → byte ≡ shown byte
   other_shown h n = shown_by (le-ltb byte 32 h) (ne_eqb byte 127 n)
 
-module _ (p : Page) where
-  -- ---- a name, byte by byte
+  pub control_as_mark : IsAsciiControl byte → 63 ≡ shown byte
+  control_as_mark (inl low) = control_shown (omega arith)
+  control_as_mark (inr delete) = delete_shown (omega arith) (omega arith)
 
-  pub name_ends : (name : List ℕ) (i : ℕ) → length name ≤ i → put p (map shown (drop i name)) ≡ p
-  unfolding put
-  name_ends name i h = ap (λ (l : List ℕ). put p (map shown l)) (drop_of_length-le name h)
+  pub other_as_it_is : IsNotAsciiControl byte → byte ≡ shown byte
+  other_as_it_is h = other_shown (omega arith) (λ e. omega arith)
 
-  pub name_goes_on : {q : Page} {byte : ℕ} (name : List ℕ) (i : ℕ) → i < length name → byte ≡ shown (get_or name i 0) → q ≡ put p (byte ∷ [])
-      → put q (map shown (drop (i + 1) name)) ≡ put p (map shown (drop i name))
-  name_goes_on {q} {byte} name i h b e =
-      ap₂ (λ (k : Page) (n : ℕ). put k (map shown (drop n name))) (e ∙ ap (λ (x : ℕ). put p (x ∷ [])) b) (add-one i)
-      ∙ sym (put_append p (shown (get_or name i 0) ∷ []) (map shown (drop (suc i) name)))
-      ∙ ap (λ (l : List ℕ). put p (map shown l)) (sym (drop-cons name i 0 h))
+-- ---- a name, byte by byte
 
-  pub named_printed : {q r s : Page} (name : List ℕ) → q ≡ put p (bytes " output=") → r ≡ put q (map shown name) → s ≡ put r (bytes "\n") → s ≡ put p (name_text name)
+pub name_goes_on : {p q r : Held ℕ} {byte : ℕ} (name : List ℕ) (i : ℕ) → i < length name → byte ≡ shown (get_or name i 0) → Puts (map shown (take i name)) p q → Puts (byte ∷ []) q r
+    → Puts (map shown (take (i + 1) name)) p r
+name_goes_on {p} {q} {r} {byte} name i h b e f = subst (λ (text : List ℕ). Puts text p r) (sym on) (puts_behind e f)
+  where
+    on : map shown (take (i + 1) name) ≡ map shown (take i name) ++ (byte ∷ [])
+    on = ap (map shown) (take_more name i 0 h) ∙ map-append shown (take i name) (get_or name i 0 ∷ []) ∙ ap (λ (x : ℕ). map shown (take i name) ++ (x ∷ [])) (sym b)
+
+module _ {p q r : Held ℕ} where
+  pub named_printed : {s : Held ℕ} (name : List ℕ) → Puts (bytes " output=") p q → Puts (map shown name) q r → Puts (bytes "\n") r s → Puts (name_text name) p s
   unfolding name_text
-  named_printed name a b c = put_behind p _ (bytes "\n") (put_behind p (bytes " output=") (map shown name) a b) c
+  named_printed name a b c = puts_behind (puts_behind a b) c
 
-  -- ---- what is remarked
+-- ---- what is remarked
 
-  module _ (site : ℕ) (verdict : Verdict) (name : List ℕ) where
-    remark_is : {q : Page} {v : Verdict} → verdict ≡ v → q ≡ put p (remark_text site v name) → q ≡ put p (remark_text site verdict name)
-    remark_is e f = f ∙ ap (λ (v : Verdict). put p (remark_text site v name)) (sym e)
+module _ (site : ℕ) (verdict : Verdict) (name : List ℕ) where
+  remark_is : {p q : Held ℕ} {v : Verdict} → verdict ≡ v → Puts (remark_text site v name) p q → Puts (remark_text site verdict name) p q
+  remark_is {p} {q} e f = subst (λ (v : Verdict). Puts (remark_text site v name) p q) (sym e) f
 
-    pub nothing_remarked : verdict ≡ Follows → p ≡ put p (remark_text site verdict name)
-    unfolding put remark_text
-    nothing_remarked e = ap (λ (v : Verdict). put p (remark_text site v name)) (sym e)
+  pub nothing_remarked : (p : Held ℕ) → verdict ≡ Follows → Puts (remark_text site verdict name) p p
+  unfolding remark_text
+  nothing_remarked p e = remark_is e (puts_nothing p)
 
-    pub ended_remarked : {q r : Page} (line : ℕ) → verdict ≡ Ended line → q ≡ put p (field "site=" site ++ field " summed=yes bad=" line) → r ≡ put q (name_text name)
-        → r ≡ put p (remark_text site verdict name)
+  module _ {p q r : Held ℕ} where
+    pub ended_remarked : (line : ℕ) → verdict ≡ Ended line → Puts (field "site=" site ++ field " summed=yes bad=" line) p q → Puts (name_text name) q r
+        → Puts (remark_text site verdict name) p r
     unfolding remark_text
-    ended_remarked line e a b = remark_is e (put_behind p (field "site=" site ++ field " summed=yes bad=" line) (name_text name) a b)
+    ended_remarked line e a b = remark_is e (puts_behind a b)
 
-    pub differs_remarked : {q r : Page} (line : ℕ) → verdict ≡ Differs line → q ≡ put p (field "site=" site ++ field " summed=no differs=" line) → r ≡ put q (name_text name)
-        → r ≡ put p (remark_text site verdict name)
+    pub differs_remarked : (line : ℕ) → verdict ≡ Differs line → Puts (field "site=" site ++ field " summed=no differs=" line) p q → Puts (name_text name) q r
+        → Puts (remark_text site verdict name) p r
     unfolding remark_text
-    differs_remarked line e a b = remark_is e (put_behind p (field "site=" site ++ field " summed=no differs=" line) (name_text name) a b)
+    differs_remarked line e a b = remark_is e (puts_behind a b)
 
-    pub events_remarked : {q r s : Page} → verdict ≡ EventsUnread → q ≡ put p (field "site=" site) → r ≡ put q (bytes " summed=no unread=events") → s ≡ put r (name_text name)
-        → s ≡ put p (remark_text site verdict name)
-    unfolding remark_text
-    events_remarked e a b c = remark_is e (put_behind p _ (name_text name) (put_behind p (field "site=" site) (bytes " summed=no unread=events") a b) c)
+    module _ {s : Held ℕ} where
+      pub events_remarked : verdict ≡ EventsUnread → Puts (field "site=" site) p q → Puts (bytes " summed=no unread=events") q r → Puts (name_text name) r s
+          → Puts (remark_text site verdict name) p s
+      unfolding remark_text
+      events_remarked e a b c = remark_is e (puts_behind (puts_behind a b) c)
 
-    pub output_remarked : {q r s : Page} → verdict ≡ OutputUnread → q ≡ put p (field "site=" site) → r ≡ put q (bytes " summed=no unread=output") → s ≡ put r (name_text name)
-        → s ≡ put p (remark_text site verdict name)
-    unfolding remark_text
-    output_remarked e a b c = remark_is e (put_behind p _ (name_text name) (put_behind p (field "site=" site) (bytes " summed=no unread=output") a b) c)
+      pub output_remarked : verdict ≡ OutputUnread → Puts (field "site=" site) p q → Puts (bytes " summed=no unread=output") q r → Puts (name_text name) r s
+          → Puts (remark_text site verdict name) p s
+      unfolding remark_text
+      output_remarked e a b c = remark_is e (puts_behind (puts_behind a b) c)

@@ -1,120 +1,103 @@
-// The text of a share sheet, put into a buffer. Each function answers with the place just past what it put; what does not fit is left off.
+// The text of a share sheet, put on a page.
 #![tactic(auto)]
 
 ghost use Rattle.std.specs.Prelude.{◌++◌, map, ◌≡◌};
 ghost use Rattle.lines.specs.Text.{bytes};
 ghost use Rattle.lines.specs.Written.{decimal, field as field_text};
-ghost use Rattle.print.specs.Page.{page, put};
+ghost use Rattle.print.specs.Puts.{Puts};
 ghost use Rattle.sheet_text.specs.Sheet.{share_text, flow_lines, sums_text, shown as shown_as, name_text, remark_text};
 
 use model::FLOW_LIMIT;
-use print::{byte, field, word};
+use print::Page;
 use shares::Share;
 use week::{Verdict, Week};
 
-// The sums of a week, from the start of a buffer.
-pub fn sums(out: &mut [u8], week: Week) -> usize
-    ensures { page out.new result ≡ put (page out.old 0) (sums_text week) }
+// The sums of a week.
+pub fn sums(page: &mut Page<'_, u8>, week: Week)
+    ensures { Puts (sums_text week) page.old page.new }
 {
     let shares = week.shares;
-    let each = shares.flows;
-    let total = shares.total;
-    let flows = flow_lines(out, each);
-    let counted = field(out, flows, b"flows=", FLOW_LIMIT);
-    let totals = share(out, counted, total);
-    let summed = field(out, totals, b"sites=", week.summed);
-    let sites = field(out, summed, b" of=", week.sites);
-    byte(out, sites, b'\n')
+    flow_lines(page, shares.flows);
+    page.field(b"flows=", FLOW_LIMIT);
+    share(page, shares.total);
+    page.field(b"sites=", week.summed);
+    page.field(b" of=", week.sites);
+    page.push(b'\n');
 }
 
-fn flow_lines(out: &mut [u8], flows: [Share; FLOW_LIMIT]) -> usize
-    ensures { page out.new result ≡ put (page out.old 0) (flow_lines 0 flows) }
+fn flow_lines(page: &mut Page<'_, u8>, flows: [Share; FLOW_LIMIT])
+    ensures { Puts (flow_lines 0 flows) page.old page.new }
 {
-    let mut past = 0;
-    let mut flow = 0;
-    while flow < FLOW_LIMIT {
-        let sent = flows[flow];
-        let numbered = field(out, past, b"flow=", flow);
-        past = share(out, numbered, sent);
-        flow += 1;
+    for (flow, sent) in flows.iter().enumerate() {
+        page.field(b"flow=", flow);
+        share(page, *sent);
     }
-    past
 }
 
-fn share(out: &mut [u8], at: usize, sent: Share) -> usize
-    ensures { page out.new result ≡ put (page out.old at) (share_text sent) }
+fn share(page: &mut Page<'_, u8>, sent: Share)
+    ensures { Puts (share_text sent) page.old page.new }
 {
-    let packets = field(out, at, b" packets=", sent.packets);
-    let bytes = field(out, packets, b" bytes=", sent.bytes);
-    let largest = field(out, bytes, b" largest=", sent.largest);
-    byte(out, largest, b'\n')
+    page.field(b" packets=", sent.packets);
+    page.field(b" bytes=", sent.bytes);
+    page.field(b" largest=", sent.largest);
+    page.push(b'\n');
 }
 
 // The line of a site that is left out, or that ended in a bad line, with the name of its output's file.
-pub fn remark(out: &mut [u8], at: usize, site: usize, verdict: Verdict, name: &[u8]) -> usize
-    ensures { page out.new result ≡ put (page out.old at) (remark_text site verdict name.now) }
+pub fn remark(page: &mut Page<'_, u8>, site: usize, verdict: Verdict, name: &[u8])
+    ensures { Puts (remark_text site verdict name.now) page.old page.new }
 {
     match verdict {
-        Verdict::Follows => at,
+        Verdict::Follows => {}
         Verdict::Ended(line) => {
-            let end = site_line(out, at, site, b" summed=yes bad=", line);
-            named(out, end, name)
+            site_line(page, site, b" summed=yes bad=", line);
+            named(page, name);
         }
         Verdict::Differs(line) => {
-            let end = site_line(out, at, site, b" summed=no differs=", line);
-            named(out, end, name)
+            site_line(page, site, b" summed=no differs=", line);
+            named(page, name);
         }
         Verdict::EventsUnread => {
-            let numbered = field(out, at, b"site=", site);
-            let end = word(out, numbered, b" summed=no unread=events");
-            named(out, end, name)
+            page.field(b"site=", site);
+            page.word(b" summed=no unread=events");
+            named(page, name);
         }
         Verdict::OutputUnread => {
-            let numbered = field(out, at, b"site=", site);
-            let end = word(out, numbered, b" summed=no unread=output");
-            named(out, end, name)
+            page.field(b"site=", site);
+            page.word(b" summed=no unread=output");
+            named(page, name);
         }
     }
 }
 
 // A site's number, and what is said of it, with a line's number.
-fn site_line(out: &mut [u8], at: usize, site: usize, what: &[u8], line: usize) -> usize
-    ensures { page out.new result ≡ put (page out.old at) (field_text "site=" site ++ (what.now ++ decimal line)) }
+fn site_line(page: &mut Page<'_, u8>, site: usize, what: &[u8], line: usize)
+    ensures { Puts (field_text "site=" site ++ (what.now ++ decimal line)) page.old page.new }
 {
-    let numbered = field(out, at, b"site=", site);
-    field(out, numbered, what, line)
+    page.field(b"site=", site);
+    page.field(what, line);
 }
 
 // A file's name, to the end of its line.
-fn named(out: &mut [u8], at: usize, name: &[u8]) -> usize
-    ensures { page out.new result ≡ put (page out.old at) (name_text name.now) }
+fn named(page: &mut Page<'_, u8>, name: &[u8])
+    ensures { Puts (name_text name.now) page.old page.new }
 {
-    let begun = word(out, at, b" output=");
-    let end = shown_name(out, begun, name);
-    byte(out, end, b'\n')
+    page.word(b" output=");
+    shown_name(page, name);
+    page.push(b'\n');
 }
 
-fn shown_name(out: &mut [u8], at: usize, name: &[u8]) -> usize
-    ensures { page out.new result ≡ put (page out.old at) (map shown_as name.now) }
+fn shown_name(page: &mut Page<'_, u8>, name: &[u8])
+    ensures { Puts (map shown_as name.now) page.old page.new }
 {
-    let mut past = at;
-    let mut i = 0;
-    while i < name.len() {
-        past = byte(out, past, shown(name[i]));
-        i += 1;
+    for byte in name {
+        page.push(shown(*byte));
     }
-    past
 }
 
 // A byte of a name, a control byte as a question mark.
 fn shown(b: u8) -> u8
     ensures { result ≡ shown_as b }
 {
-    if b < b' ' {
-        return b'?';
-    }
-    if b == 127 {
-        return b'?';
-    }
-    b
+    if b.is_ascii_control() { b'?' } else { b }
 }

@@ -2,8 +2,8 @@
 use Rattle.play.proofs.StoryLaws.{nothing_printed, refusal_printed}
 use Rattle.play.proofs.answer_line.Goals as goal
 
-pub returns-in-Done : goal.returns-in-Done
-returns-in-Done c = nothing_printed _ _ _ c.in-Done.is
-
 pub returns-in-Refused : goal.returns-in-Refused
-returns-in-Refused c = refusal_printed _ _ _ _ c.in-Refused.is c.refused_line.ensures
+returns-in-Refused c = refusal_printed _ _ _ c.in-Refused.is c.refused_line.ensures
+
+pub returns-in_default : goal.returns-in_default
+returns-in_default c = nothing_printed _ _ _ c.in_default.is

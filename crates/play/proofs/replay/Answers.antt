@@ -3,15 +3,15 @@ use Rattle.play.proofs.PlayLaws.{plays_begin, plays_end, plays_bad, may_run, les
 use Rattle.play.proofs.replay.Goals as goal
 
 pub loop-reader-init : goal.loop-reader-init
-loop-reader-init c = plays_begin _ _ _ _ c.requires c.new-state.ensures _ c.new-reader.ensures
+loop-reader-init c = plays_begin _ _ _ _ c.requires c.new.ensures _ c.new-reader.ensures
 
 pub returns-in_default : goal.returns-in_default
 returns-in_default c =
-    let all = plays_bad c.loop-reader.invariant c.is_at_end.ensures c.loop-reader-test.true c.next.ensures c.in_default.is c.bad_line-written.ensures in
+    let all = plays_bad c.loop-reader.invariant c.is_at_end.ensures c.loop-reader-test.true c.next.ensures c.in_default.is c.bad_line.ensures in
     record { noted_after = all.0; ending_value = all.1 }
 
-pub run-course-requires : goal.run-course-requires
-run-course-requires c =
+pub run-requires : goal.run-requires
+run-requires c =
     let all = may_run c.loop-reader.invariant c.is_at_end.ensures c.loop-reader-test.true c.next.ensures c.in-Some.is c.requires in
     record { sound = all.0; event_bound = all.1 }
 
@@ -20,7 +20,7 @@ loop-reader-smaller c = less_left c.loop-reader.invariant c.is_at_end.ensures c.
 
 pub loop-reader-preserved : goal.loop-reader-preserved
 loop-reader-preserved c =
-    plays_on c.loop-reader.invariant c.is_at_end.ensures c.loop-reader-test.true c.next.ensures c.in-Some.is c.requires c.run-course.ensures
+    plays_on c.loop-reader.invariant c.is_at_end.ensures c.loop-reader-test.true c.next.ensures c.in-Some.is c.requires c.run.ensures
 
 pub returns : goal.returns
 returns c =

@@ -1,5 +1,5 @@
 -- `sheet::judged_all` meets its contract: each site's remark is put behind those of the sites before it.
-use Rattle.std.proofs.Common.{arith}
+use Rattle.std.proofs.Common.{arith, rules}
 use Rattle.sheet.proofs.MadeLaws.{making_begin, making_sites, making_sound, making_on, making_end}
 use Rattle.sheet.proofs.judged_all.Goals as goal
 
@@ -13,7 +13,11 @@ pub judge-verdict-requires-clause-sites_value : goal.judge-verdict-requires-clau
 judge-verdict-requires-clause-sites_value g c = making_sites c.loop-before.invariant
 
 pub loop-before-preserved : goal.loop-before-preserved
-loop-before-preserved g c = making_on c.loop-before.invariant c.judge-verdict.ensures c.remark-past.ensures
+loop-before-preserved g c = making_on c.loop-before.invariant c.judge-verdict.ensures c.remark.ensures
 
 pub returns : goal.returns
-returns g c = making_end c.loop-before.invariant _ (omega arith) c.requires.sites_le_site_limit c.requires.remark_limit_in_bounds
+returns g c =
+    let kept = c.loop-before.invariant.puts.same_buffer in
+    making_end c.loop-before.invariant _ (omega arith) c.requires.sites_le_site_limit c.requires.remark_limit_in_bounds
+    (record { empty = c.new-page.ensures.empty; holds = search rules })
+    c.past.ensures

@@ -3,5 +3,4 @@ use Rattle.sheet_text.proofs.SumLaws.{share_printed}
 use Rattle.sheet_text.proofs.share.Goals as goal
 
 pub returns : goal.returns
-returns c =
-    share_printed _ _ c.field-packets.ensures c.field-bytes.ensures c.field-largest.ensures c.byte.ensures
+returns c = share_printed _ c.field.ensures c.field-2.ensures c.field-3.ensures c.push.ensures

@@ -3,6 +3,4 @@ use Rattle.sheet_text.proofs.SumLaws.{sums_printed}
 use Rattle.sheet_text.proofs.sums.Goals as goal
 
 pub returns : goal.returns
-returns c =
-    sums_printed _ _ c.flow_lines-flows.ensures c.field-counted.ensures c.share-totals.ensures c.field-summed.ensures c.field-sites.ensures
-    c.byte.ensures
+returns c = sums_printed _ c.flow_lines.ensures c.field.ensures c.share.ensures c.field-2.ensures c.field-3.ensures c.push.ensures

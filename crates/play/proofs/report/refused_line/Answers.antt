@@ -3,5 +3,4 @@ use Rattle.play.proofs.ReportLaws.{refused_printed}
 use Rattle.play.proofs.report.refused_line.Goals as goal
 
 pub returns : goal.returns
-returns c =
-    refused_printed _ _ _ c.field-numbered.ensures c.field-end.ensures c.byte.ensures
+returns c = refused_printed _ _ c.field.ensures c.field-2.ensures c.push.ensures

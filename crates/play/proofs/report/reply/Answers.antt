@@ -3,5 +3,4 @@ use Rattle.play.proofs.ReportLaws.{reply_printed}
 use Rattle.play.proofs.report.reply.Goals as goal
 
 pub returns : goal.returns
-returns c =
-    reply_printed _ _ c.field-flow.ensures c.field-size.ensures c.field-mark.ensures c.field.ensures
+returns c = reply_printed _ c.field.ensures c.field-2.ensures c.field-3.ensures c.field-4.ensures

@@ -3,5 +3,4 @@ use Rattle.play.proofs.ReportLaws.{sent_printed}
 use Rattle.play.proofs.report.sent_line.Goals as goal
 
 pub returns : goal.returns
-returns c =
-    sent_printed _ _ _ c.field-numbered.ensures c.reply-end.ensures c.byte.ensures
+returns c = sent_printed _ _ c.field.ensures c.reply.ensures c.push.ensures
