@@ -3,20 +3,23 @@ use Rattle.order.proofs.BurstLaws.{NoDeparture}
 use Prim.Native.Nat.{ℕ, suc, ◌+◌, ◌-◌, ◌^◌, ◌<◌, ◌≤◌}
 use native.Mathlib.Omega.{arith}
 use mathlib.Core.List.{[], ◌∷◌}
-use mathlib.Core.Path.{◌≡◌, sym, ap, ap₂, ◌∙◌, subst}
-use Rattle.model.specs.Model.{Scheduler}
-use Rattle.model.specs.Calls.{Outcome, opened, offered, departed}
+use mathlib.Core.Path.{◌≡◌, refl, sym, ap, ap₂, ◌∙◌, subst}
+use Rattle.model.specs.Model.{Scheduler, flow_at}
+use Rattle.std.specs.Prelude.{Result, Ok, Err}
+use Rattle.model.specs.Calls.{opened, offered, offer_answer, unless_refused, departed}
+use Rattle.model.specs.Choose.{ok_with}
+use Rattle.model.specs.Replies.{Answer}
+use Rattle.model.specs.declared.Outcome.{Outcome}
+use Rattle.model.specs.declared.Refusal.{Refusal}
 use Rattle.model.specs.declared.Sent.{Sent}
-use Rattle.model.specs.declared.Answer.{Answer}
 use Rattle.model.specs.declared.Reply.{Reply}
 use Rattle.model.specs.declared.Reply.TheVariants.{Departure}
 use Rattle.lines.specs.declared.Event.{Event}
 use Rattle.lines.specs.declared.Event.TheVariants.{Flow, Arrive, Send}
 use Rattle.order.specs.Encoding.{view, Sound}
 use Rattle.order.specs.Promised.{answered_as, offered_as, departed_as, OpenGives, OfferGives, DepartGives}
-use Rattle.order.specs.declared.Answered.{Answered}
 use Rattle.order.specs.declared.Departed.{Departed}
-use Rattle.order.specs.declared.Placed.{Placed}
+use Rattle.steps.specs.declared.Place.{Place}
 use Rattle.order.specs.State.{State}
 use Rattle.order.proofs.StateLaws.{open_seen, offer_seen, depart_seen}
 use Rattle.play.specs.Course.{replay_of, Desk, desk, reported, Goes}
@@ -28,9 +31,9 @@ use Rattle.play.specs.declared.Course.{Course}
 use Rattle.play.proofs.LogLaws.{reported_append, nothing_reported, idle_reported, answer_reported, sent_reported}
 use Rattle.play.proofs.StoryLaws.{replay, sending_none, sending_goes_on, sending_ends}
 
-reply_departed : {s : State} {r : Departed} → DepartGives s r → r.reply ≡ (departed (view s)).reply
+reply_departed : {s : State} {r : Outcome State Departed} → DepartGives s r → r.reply.reply ≡ (departed (view s)).reply
 unfolding departed_as
-reply_departed g = ap (λ (d : Departed). d.reply) g.outcome
+reply_departed g = ap (λ (d : Outcome State Departed). d.reply.reply) g.outcome
 
 -- ---- one event: a flow opened, a packet offered
 
@@ -44,33 +47,40 @@ abbrev answered_course : Course → State → Course
 answered_course c s = record { state = s; sent = c.sent }
 
 -- An answer is printed.
-abbrev Prints : ℕ → Held ℕ → Held ℕ → Answer → Type 0
+abbrev Prints : {T : Type 0} → ℕ → Held ℕ → Held ℕ → Result T Refusal → Type 0
 Prints line page page' answer = Puts (text_of (refusal answer line)) page page'
 
+-- An offer's answer prints what the model's does: the place is not printed.
+place_unseen : (a : Answer) (place : Place) (line : ℕ) → refusal (ok_with a place) line ≡ refusal a line
+place_unseen (Ok done) place line = refl
+place_unseen (Err r) place line = refl
+
 module _ (c : Course) (S : Sound c.state) (line : ℕ) {page : Held ℕ} (log : Held ℕ) {page' : Held ℕ} where
-  answer_goes : (s : State) (answer : Answer) → Prints line page page' answer → (o : Outcome Answer) → answer ≡ o.reply → view s ≡ o.state → Sound s
+  answer_goes : {T : Type 0} (s : State) (answer : Result T Refusal) → Prints line page page' answer → (o : Outcome Scheduler Answer) → refusal answer line ≡ refusal o.reply line → view s ≡ o.state → Sound s
       → Goes c page log (answered (replay_of c) line o) (answered_course c s) page' log
   unfolding answered replay_of
   answer_goes s answer e o a v sound =
       record {
-        reports = answer_reported log answer line e ∙ ap (λ (x : Answer). reported (desk page log) (refusal x line)) a;
+        reports = answer_reported log answer line e ∙ ap (reported (desk page log)) a;
         arrives = ap (λ (m : Scheduler). replay m c.sent) v;
         sound = sound;
       }
 
-  pub open_goes : (r : Answered) → Prints line page page' r.answer → (event : Event) (f weight : ℕ) → event ≡ Flow f weight → OpenGives c.state f weight r
+  pub open_goes : (r : Outcome State Answer) → Prints line page page' r.reply → (event : Event) (f weight : ℕ) → event ≡ Flow f weight → OpenGives c.state f weight r
       → Goes c page log (happening (replay_of c) line event) (answered_course c r.state) page' log
   unfolding happening replay_of answered_as
   open_goes r e event f weight i g =
       as_event c line event (Flow f weight) i
-      (answer_goes r.state r.answer e (opened (view c.state) f weight) (ap (λ (a : Answered). a.answer) g.outcome) (open_seen S g) g.sound)
+      (answer_goes r.state r.reply e (opened (view c.state) f weight) (ap (λ (a : Outcome State Answer). refusal a.reply line) g.outcome) (open_seen S g) g.sound)
 
-  pub offer_goes : (r : Placed) → Prints line page page' r.answer → (event : Event) (f size : ℕ) → event ≡ Arrive f size → OfferGives c.state f size r
+  pub offer_goes : (r : Outcome State (Result Place Refusal)) → Prints line page page' r.reply → (event : Event) (f size : ℕ) → event ≡ Arrive f size → OfferGives c.state f size r
       → Goes c page log (happening (replay_of c) line event) (answered_course c r.state) page' log
-  unfolding happening replay_of offered_as
+  unfolding happening replay_of offered_as offered unless_refused
   offer_goes r e event f size i g =
       as_event c line event (Arrive f size) i
-      (answer_goes r.state r.answer e (offered (view c.state) f size) (ap (λ (a : Placed). a.answer) g.outcome) (offer_seen S g) g.sound)
+      (answer_goes r.state r.reply e (offered (view c.state) f size)
+      (ap (λ (a : Outcome State (Result Place Refusal)). refusal a.reply line) g.outcome ∙ place_unseen (offer_answer f size (flow_at (view c.state) f)) _ line)
+      (offer_seen S g) g.sound)
 
 -- ---- departures
 
@@ -90,8 +100,8 @@ module _ {goal : Desk} {end : Replay} {page log : Held ℕ} {s : State} {n left 
       zero_left : left ≡ 0
       zero_left = omega arith
 
-  module _ (r : Departed) (g : DepartGives s r) where
-    pub sends_on : {less : ℕ} → left ≡ suc less → (d : Sent) {page' log' : Held ℕ} → r.reply ≡ Departure d → Puts (line_of (sent (n + 1) d)) page page' → Puts (d.flow ∷ d.size ∷ []) log log'
+  module _ (r : Outcome State Departed) (g : DepartGives s r) where
+    pub sends_on : {less : ℕ} → left ≡ suc less → (d : Sent) {page' log' : Held ℕ} → r.reply.reply ≡ Departure d → Puts (line_of (sent (n + 1) d)) page page' → Puts (d.flow ∷ d.size ∷ []) log log'
         → Sends goal end page' log' r.state (n + 1) less
     sends_on {less} one_left d e f k =
         record {
@@ -111,7 +121,7 @@ module _ {goal : Desk} {end : Replay} {page log : Held ℕ} {s : State} {n left 
         }
         on = ap (sending (replay (view s) n)) one_left ∙ sending_goes_on (view s) n less d (sym (reply_departed g) ∙ e)
 
-    pub sends_idle : {page' : Held ℕ} → 0 < left → NoDeparture r.reply → Puts (line_of (idle n)) page page' → (desk page' log ≡ goal) × (replay (view r.state) n ≡ end)
+    pub sends_idle : {page' : Held ℕ} → 0 < left → NoDeparture r.reply.reply → Puts (line_of (idle n)) page page' → (desk page' log ≡ goal) × (replay (view r.state) n ≡ end)
     sends_idle more k f = (
       idle_reported log n f ∙ ap (λ (x : Happening). reported (desk page log) x.reports) (sym stops) ∙ h.reports,
       ap (λ (m : Scheduler). replay m n) (depart_seen h.sound g) ∙ ap (λ (x : Happening). x.after) (sym stops) ∙ h.arrives,

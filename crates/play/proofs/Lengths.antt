@@ -11,15 +11,18 @@ use Rattle.std.specs.Prelude.{Option, Some, None}
 use Prim.Native.Nat.{ℕ, zero, suc, ◌+◌, ◌*◌, ◌-◌, ◌^◌, ◌<◌, ◌≤◌}
 use native.Mathlib.Decide.{dec_lt}
 use native.Mathlib.Omega.{arith}
-use mathlib.Core.Bool.{Bool, true, false, cond, ◌||◌}
+use mathlib.Core.Bool.{Bool, true, false, cond}
 use mathlib.Core.List.{List, [], ◌∷◌, ◌++◌}
 use mathlib.Core.Path.{◌≡◌, refl, sym, ap, subst}
 use lib.ListN.{length, drop, length-append}
-use lib.Dec.{leb, ltb, eqb}
+use lib.Dec.{ltb}
 use Rattle.std.proofs.Common.{Ok, Err}
-use Rattle.model.specs.Limits.{flow_limit, weight_limit, size_limit, queue_limit}
-use Rattle.model.specs.Model.{Flow, Scheduler, flow_at, new_scheduler}
-use Rattle.model.specs.Calls.{Departures, unless_refused, open_refusal, offer_refusal, opened, offered, departed, and_then, departures}
+use Rattle.model.specs.Model.{Scheduler, flow_at, new_scheduler}
+use Rattle.std.specs.Prelude.{Ok, Err}
+use Rattle.model.specs.Replies.{Answer, number_of}
+use Rattle.model.specs.declared.Refusal.{Refusal}
+use Rattle.model.specs.declared.Refusal.TheVariants.{NoSuchFlow, BadWeight, OpenAlready, NotOpen, BadSize, QueueFull, OutShort, StoreWrong, ListShort}
+use Rattle.model.specs.Calls.{Departures, unless_refused, open_answer, offer_answer, opened, offered, departed, and_then, departures}
 use Rattle.model.specs.Rules.{Rules}
 use Rattle.model.specs.declared.Reply.{Reply}
 use Rattle.model.specs.declared.Reply.TheVariants.{Departure, Idle, Refused as ReplyRefused}
@@ -122,6 +125,18 @@ written_length (Send count) = omega (arith, length-append (bytes "send=" ++ deci
 
 -- ---- one event
 
+-- A refusal's number has one digit.
+one_digit : (r : Refusal) → number_of r < 10
+one_digit NoSuchFlow = omega arith
+one_digit BadWeight = omega arith
+one_digit OpenAlready = omega arith
+one_digit NotOpen = omega arith
+one_digit BadSize = omega arith
+one_digit QueueFull = omega arith
+one_digit OutShort = omega arith
+one_digit StoreWrong = omega arith
+one_digit ListShort = omega arith
+
 -- What an event prints is paid for: 48 bytes for each packet that no longer waits, and three for each byte of its line. The departures and the
 -- packets that wait are together no more than the lines on which packets can have arrived.
 record Pays (r : Replay) (x : Happening) (line-bytes : ℕ) : Type 0 where
@@ -129,17 +144,13 @@ record Pays (r : Replay) (x : Happening) (line-bytes : ℕ) : Type 0 where
   pub counted : 16 * (x.after.departed + waiting x.after.scheduler) ≤ 16 * (r.departed + waiting r.scheduler) + line-bytes
   pub keeps : Rules x.after.scheduler
 
-either : (t : Bool) (a b : ℕ) → a < 10 → b < 10 → cond t a b < 10
-either true a b h k = h
-either false a b h k = k
-
-unless_pays : (r : Replay) (line n : ℕ) (t : Scheduler) → n < 10 → Few line → waiting t ≤ waiting r.scheduler + 1 → Rules (unless_refused n r.scheduler t).state
-    → Pays r (answered r line (unless_refused n r.scheduler t)) 16
+unless_pays : (r : Replay) (line : ℕ) (a : Answer) (t : Scheduler) → Few line → waiting t ≤ waiting r.scheduler + 1 → Rules (unless_refused a r.scheduler t).state
+    → Pays r (answered r line (unless_refused a r.scheduler t)) 16
 unfolding answered unless_refused text_of
-unless_pays r line zero t small f w R = record { printed = omega arith; counted = omega arith; keeps = R }
-unless_pays r line (suc n) t small f w R =
+unless_pays r line (Ok done) t f w R = record { printed = omega arith; counted = omega arith; keeps = R }
+unless_pays r line (Err k) t f w R =
     record {
-      printed = omega (arith, ap length (text_of_one (refused (suc n) line)), refused_length (suc n) line small f);
+      printed = omega (arith, ap length (text_of_one (refused (number_of k) line)), refused_length (number_of k) line (one_digit k) f);
       counted = omega arith;
       keeps = R;
     }
@@ -147,28 +158,12 @@ unless_pays r line (suc n) t small f w R =
 open_pays : (r : Replay) (line flow weight : ℕ) → Rules r.scheduler → Few line → Pays r (answered r line (opened r.scheduler flow weight)) 16
 unfolding opened
 open_pays r line flow weight R f =
-    unless_pays r line (open_refusal flow weight x) _
-    (either (leb flow_limit flow) 1 _ (omega arith) (either (eqb weight 0 || ltb weight_limit weight) 2 _ (omega arith) (either (eqb x.weight 0) 0 3 (omega arith) (omega arith))))
-    f
-    (opening_waits r.scheduler flow weight)
-    (opened_keeps r.scheduler flow weight R)
-  where
-    x : Flow
-    x = flow_at r.scheduler flow
+    unless_pays r line (open_answer flow weight (flow_at r.scheduler flow)) _ f (opening_waits r.scheduler flow weight) (opened_keeps r.scheduler flow weight R)
 
 offer_pays : (r : Replay) (line flow size : ℕ) → Rules r.scheduler → Few line → Pays r (answered r line (offered r.scheduler flow size)) 16
 unfolding offered
 offer_pays r line flow size R f =
-    unless_pays r line (offer_refusal flow size x) _
-    (either (leb flow_limit flow) 1 _ (omega arith)
-    (either (eqb x.weight 0) 4 _ (omega arith)
-    (either (eqb size 0 || ltb size_limit size) 5 _ (omega arith) (either (leb queue_limit (length x.queue)) 6 0 (omega arith) (omega arith)))))
-    f
-    (offering_waits r.scheduler flow size)
-    (offered_keeps r.scheduler flow size R)
-  where
-    x : Flow
-    x = flow_at r.scheduler flow
+    unless_pays r line (offer_answer flow size (flow_at r.scheduler flow)) _ f (offering_waits r.scheduler flow size) (offered_keeps r.scheduler flow size R)
 
 -- Departures are each paid for by the packet that left: n were made before them, and `d` is what they give.
 record Departs (n : ℕ) (s : Scheduler) (d : Departures) : Type 0 where

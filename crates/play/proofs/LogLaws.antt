@@ -14,8 +14,9 @@ use lib.ListN.{length}
 use lib.Dec.{ltb}
 use Rattle.model.specs.Calls.{opened, offered, departures}
 use Rattle.model.specs.declared.Sent.{Sent}
-use Rattle.model.specs.declared.Answer.{Answer}
-use Rattle.model.specs.declared.Answer.TheVariants.{Done, Refused}
+use Rattle.std.specs.Prelude.{Result, Ok, Err}
+use Rattle.model.specs.Replies.{Answer}
+use Rattle.model.specs.declared.Refusal.{Refusal}
 use Rattle.lines.specs.declared.Event.{Event}
 use Rattle.lines.specs.declared.Event.TheVariants.{Flow, Arrive, Send}
 use Rattle.print.specs.Page.{Page, put}
@@ -85,10 +86,10 @@ module _ {page page' : Held ℕ} where
   unfolding departures_in log_of
   idle_reported log n e = one_reported (idle n) e (puts_nothing log)
 
-  pub answer_reported : (log : Held ℕ) (answer : Answer) (line : ℕ) → Puts (text_of (refusal answer line)) page page' → desk page' log ≡ reported (desk page log) (refusal answer line)
+  pub answer_reported : {T : Type 0} (log : Held ℕ) (answer : Result T Refusal) (line : ℕ) → Puts (text_of (refusal answer line)) page page' → desk page' log ≡ reported (desk page log) (refusal answer line)
   unfolding departures_in log_of
-  answer_reported log Done line e = both_reported (refusal Done line) e (puts_nothing log)
-  answer_reported log (Refused j) line e = both_reported (refusal (Refused j) line) e (puts_nothing log)
+  answer_reported log (Ok x) line e = both_reported (refusal (Ok x) line) e (puts_nothing log)
+  answer_reported {T} log (Err j) line e = both_reported (refusal {T = T} (Err j) line) e (puts_nothing log)
 
   pub sent_reported : {log log' : Held ℕ} (n : ℕ) (d : Sent) → Puts (line_of (sent n d)) page page' → Puts (d.flow ∷ d.size ∷ []) log log' → desk page' log' ≡ reported (desk page log) (sent n d ∷ [])
   unfolding departures_in log_of
@@ -98,8 +99,8 @@ module _ {page page' : Held ℕ} where
 
 pub departures_of_refusal : (answer : Answer) (line : ℕ) → departures_in (refusal answer line) ≡ []
 unfolding departures_in
-departures_of_refusal Done line = refl
-departures_of_refusal (Refused k) line = refl
+departures_of_refusal (Ok done) line = refl
+departures_of_refusal (Err r) line = refl
 
 -- at the end of a `send`
 departures_of_idle : (t : Bool) (n : ℕ) → departures_in (cond t (idle n ∷ []) []) ≡ []
@@ -146,8 +147,8 @@ idle_goes_on false n more = refl
 
 refusal_goes_on : (answer : Answer) (line : ℕ) (more : List Report) → ending_in (refusal answer line ++ more) ≡ ending_in more
 unfolding ending_in
-refusal_goes_on Done line more = refl
-refusal_goes_on (Refused k) line more = refl
+refusal_goes_on (Ok done) line more = refl
+refusal_goes_on (Err r) line more = refl
 
 pub goes_on : (r : Replay) (line : ℕ) (event : Event) (more : List Report) → ending_in ((happening r line event).reports ++ more) ≡ ending_in more
 unfolding happening answered sending departing

@@ -10,8 +10,9 @@ use borrow.Author.Tests.{lt-ltb}
 use Rattle.model.specs.Model.{Scheduler}
 use Rattle.model.specs.Calls.{departed, and_then, departures}
 use Rattle.model.specs.declared.Sent.{Sent}
-use Rattle.model.specs.declared.Answer.{Answer}
-use Rattle.model.specs.declared.Answer.TheVariants.{Done, Refused}
+use Rattle.std.specs.Prelude.{Result, Ok, Err}
+use Rattle.model.specs.Replies.{number_of}
+use Rattle.model.specs.declared.Refusal.{Refusal}
 use Rattle.model.specs.declared.Reply.{Reply}
 use Rattle.model.specs.declared.Reply.TheVariants.{Departure, Idle, Refused as ReplyRefused}
 use Rattle.order.proofs.BurstLaws.{NoDeparture, no_departure_ends}
@@ -37,13 +38,15 @@ text_of_one r = append-nil (line_of r)
 
 -- ---- an answer
 
-pub nothing_printed : (p : Held ℕ) (answer : Answer) (line : ℕ) → answer ≡ Done → Puts (text_of (refusal answer line)) p p
-unfolding text_of
-nothing_printed p answer line e = subst (λ (a : Answer). Puts (text_of (refusal a line)) p p) (sym e) (puts_nothing p)
+module _ {T : Type 0} where
+  pub nothing_printed : (p : Held ℕ) (answer : Result T Refusal) (x : T) (line : ℕ) → answer ≡ Ok x → Puts (text_of (refusal answer line)) p p
+  unfolding text_of
+  nothing_printed p answer x line e = subst (λ (a : Result T Refusal). Puts (text_of (refusal a line)) p p) (sym e) (puts_nothing p)
 
-pub refusal_printed : {p q : Held ℕ} (answer : Answer) (k line : ℕ) → answer ≡ Refused k → Puts (line_of (refused k line)) p q → Puts (text_of (refusal answer line)) p q
-refusal_printed {p} {q} answer k line e f =
-    subst (λ (text : List ℕ). Puts text p q) (sym (text_of_one (refused k line)) ∙ ap (λ (a : Answer). text_of (refusal a line)) (sym e)) f
+  pub refusal_printed : {p q : Held ℕ} (answer : Result T Refusal) (r : Refusal) (line : ℕ) → answer ≡ Err r → Puts (line_of (refused (number_of r) line)) p q
+      → Puts (text_of (refusal answer line)) p q
+  refusal_printed {p} {q} answer r line e f =
+      subst (λ (text : List ℕ). Puts text p q) (sym (text_of_one (refused (number_of r) line)) ∙ ap (λ (a : Result T Refusal). text_of (refusal a line)) (sym e)) f
 
 -- ---- departures
 

@@ -1,10 +1,11 @@
 -- What happens in a replay: each event is a call on the scheduler, and what is reported of it.
-use Rattle.std.specs.Prelude.{ℕ, ◌+◌, cond, List, [], ◌∷◌, ◌++◌, length, ltb}
+use Rattle.std.specs.Prelude.{ℕ, ◌+◌, cond, List, [], ◌∷◌, ◌++◌, length, ltb, Result, Ok, Err}
 use Rattle.model.specs.Model.{Scheduler, new_scheduler}
-use Rattle.model.specs.Calls.{Outcome, Departures, opened, offered, departures}
+use Rattle.model.specs.Calls.{Departures, opened, offered, departures}
+use Rattle.model.specs.Replies.{Answer, number_of}
+use Rattle.model.specs.declared.Outcome.{Outcome}
+use Rattle.model.specs.declared.Refusal.{Refusal}
 use Rattle.model.specs.declared.Sent.{Sent}
-use Rattle.model.specs.declared.Answer.{Answer}
-use Rattle.model.specs.declared.Answer.TheVariants.{Done, Refused}
 use Rattle.lines.specs.declared.Event.{Event}
 use Rattle.lines.specs.declared.Event.TheVariants.{Flow, Arrive, Send}
 use Rattle.play.specs.Script.{Script, ended, spoiled, ◌then◌}
@@ -34,11 +35,11 @@ pub record Happening : Type 0 where
   pub reports : List Report
 
 -- A refused event is reported, and the replay goes on; nothing is reported of one that is done.
-abbrev pub refusal : Answer → ℕ → List Report
-refusal Done line = []
-refusal (Refused k) line = refused k line ∷ []
+abbrev pub refusal : {T : Type 0} → Result T Refusal → ℕ → List Report
+refusal (Ok done) line = []
+refusal (Err r) line = refused (number_of r) line ∷ []
 
-unfoldable pub answered : Replay → ℕ → Outcome Answer → Happening
+unfoldable pub answered : Replay → ℕ → Outcome Scheduler Answer → Happening
 answered r line o = record { after = record { scheduler = o.state; departed = r.departed }; reports = refusal o.reply line }
 
 -- Departures are numbered through the whole replay: these come after the first n.

@@ -11,7 +11,7 @@ ghost use Rattle.play.specs.Story.{refusal, sending, happening};
 ghost use Rattle.play.specs.Transcript.{input_limit, output_limit, text_of, reports, transcript};
 
 use lines::Event;
-use model::{Answer, Reply};
+use model::{Outcome, Refusal, Reply};
 use order::State;
 use print::Page;
 use reader::Reader;
@@ -86,11 +86,7 @@ pub fn tell(input: &[u8], out: &mut [u8], log: &mut [u16]) -> Told
 }
 
 // The replay of an input that is not too long, line by line.
-fn replay(
-    input: &[u8],
-    page: &mut Page<'_, u8>,
-    log: &mut Page<'_, u16>,
-) -> Result<(), BadLine>
+fn replay(input: &[u8], page: &mut Page<'_, u8>, log: &mut Page<'_, u16>) -> Result<(), BadLine>
     requires { length input.now ≤ input_limit }
     ensures noted_after { desk page.new log.new ≡ reported (desk page.old log.old) (reports input.now) }
     ensures ending_value { result ≡ ending_of input.now }
@@ -126,25 +122,25 @@ fn run(
 {
     match event {
         Event::Flow(flow, weight) => {
-            let answered = course.state.open(flow, weight);
-            course.state = answered.state;
-            answer_line(page, answered.answer, line);
+            let Outcome { state, reply } = course.state.open(flow, weight);
+            course.state = state;
+            answer_line(page, reply, line);
         }
         Event::Arrive(flow, size) => {
-            let answered = course.state.offer(flow, size);
-            course.state = answered.state;
-            answer_line(page, answered.answer, line);
+            let Outcome { state, reply } = course.state.offer(flow, size);
+            course.state = state;
+            answer_line(page, reply, line);
         }
         Event::Send(count) => send(course, page, log, count),
     }
 }
 
 // The line of an answer: only a refusal has one.
-fn answer_line(page: &mut Page<'_, u8>, answer: Answer, line: usize)
+fn answer_line<T: Copy>(page: &mut Page<'_, u8>, answer: Result<T, Refusal>, line: usize)
     ensures { Puts (text_of (refusal answer line)) page.old page.new }
 {
-    if let Answer::Refused(refusal) = answer {
-        report::refused_line(page, refusal as usize, line);
+    if let Err(refusal) = answer {
+        report::refused_line(page, usize::from(u8::from(refusal)), line);
     }
 }
 
@@ -155,9 +151,9 @@ fn send(course: &mut Course, page: &mut Page<'_, u8>, log: &mut Page<'_, u16>, c
     ensures { Goes course.old page.old log.old (sending (replay_of course.old) count) course.new page.new log.new }
 {
     for _ in 0..count {
-        let departed = course.state.depart();
-        course.state = departed.state;
-        let Reply::Departure(packet) = departed.reply else {
+        let Outcome { state, reply } = course.state.depart();
+        course.state = state;
+        let Reply::Departure(packet) = reply.reply else {
             report::idle_line(page, course.sent);
             return;
         };

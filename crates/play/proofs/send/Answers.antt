@@ -8,12 +8,12 @@ loop-init c = sends_begin _ c.requires.sound _ _ _ (omega arith) c.requires.coun
 
 pub returns-in_default : goal.returns-in_default
 returns-in_default c =
-    let departs = c.depart-departed.ensures in
+    let departs = c.depart-state.ensures in
     send_goes _ c.requires.sound _ _ _ _ _ _ departs.sound (sends_idle c.loop.invariant _ departs (omega arith) c.in_default.not-Departure c.idle_line.ensures)
 
 pub loop-preserved : goal.loop-preserved
 loop-preserved c =
-    let departs = c.depart-departed.ensures in
+    let departs = c.depart-state.ensures in
     sends_on c.loop.invariant _ departs (omega arith) _ c.in-Departure.is c.sent_line.ensures c.note.ensures
 
 pub returns : goal.returns
