@@ -29,9 +29,7 @@ fn number_at(cells: &[u8], at: usize) -> u64
     requires { at + sizes_room ≤ length cells.now }
     ensures { result ≡ number (take sizes_room (drop at cells.now)) }
 {
-    let mut digits = [0; SIZES];
-    digits.copy_from_slice(&cells[at..at + SIZES]);
-    u64::from_le_bytes(digits)
+    u64::from_le_bytes(*cells[at..at + SIZES].as_array().unwrap())
 }
 
 // Stores a number's digits from a place on, the lowest first.

@@ -2,7 +2,7 @@
 use Prim.Native.Nat.{ℕ, ◌+◌, ◌-◌}
 use mathlib.Core.Path.{◌≡◌, ap, ◌∙◌}
 use native.Mathlib.Omega.{arith}
-use lib.ListN.{take, drop}
+use lib.ListN.{length, take, drop}
 use Rattle.layout.specs.Bytes.{sizes_room, number}
 use Rattle.layout.proofs.Bytes.{number_converted}
 use Rattle.layout.proofs.number_at.Goals as goal
@@ -10,8 +10,8 @@ use Rattle.layout.proofs.number_at.Goals as goal
 pub returns : goal.returns
 returns c =
     let at = c.args.at in
-    let copied = c.copy_from_slice.ensures in
     let eight : at + sizes_room - at ≡ sizes_room = omega arith in
-    c.from_le_bytes.ensures
-    ∙ number_converted c.copy_from_slice.new.self copied.len
-    ∙ ap number (copied.after ∙ ap (λ (n : ℕ). take n (drop at c.args.cells.now)) eight)
+    let whole = rw c.unwrap.ensures at c.as_array.ensures.cases in
+    let same : c.unwrap.result.now ≡ take sizes_room (drop at c.args.cells.now) =
+    whole.same ∙ ap (λ (n : ℕ). take n (drop at c.args.cells.now)) eight in
+    c.from_le_bytes.ensures ∙ number_converted c.unwrap.result.now (ap length whole.same ∙ whole.long) ∙ ap number same
