@@ -1,16 +1,16 @@
--- A number is what its digits give back, where there are enough of them. Then what the code does: the sum of the bytes that it reads, the stores of those
--- that it writes, and the library's conversions.
+-- A number is what its digits give back, where there are enough of them, and it is the sum of the bytes that are read. Stores one by one lay a list; and the
+-- library's conversions of eight bytes are this number and these digits.
 use Prim.Native.Nat.{ℕ, zero, suc, ◌+◌, ◌*◌, ◌/◌, ◌%◌, ◌^◌, ◌≤◌, ◌<◌}
 use mathlib.Core.Path.{◌≡◌, refl, sym, ap, ap₂, ◌∙◌}
 use mathlib.Core.List.{List, [], ◌∷◌, ◌++◌, append_assoc}
 use native.Mathlib.Omega.{arith}
 use native.Mathlib.Nat.{add-zero, add-suc, mul_assoc, pow-succ', pow-suc, div-div-eq-div-mul}
+use borrow.Rule.Slice.PartMut.{put_mid}
 use mir.Syntax.{w64}
 use lib.ListN.{length, get_or, set, take, drop, length-drop}
 use lib.Seq.{sets, sets-eq, drop-cons, get_or-drop, length-take-le, take-suc, take_all, drop-drop}
 use Rattle.std.specs.Int.{from_le_bytes, to_le_bytes, bytes_low_first}
 use Rattle.layout.specs.Bytes.{byte_limit, digits, number, sizes_room, with_sizes}
-use borrow.Rule.Slice.PartMut.{put_mid}
 
 pub digits_length : (k n : ℕ) → length (digits k n) ≡ k
 unfolding digits
