@@ -87,7 +87,7 @@ module _ {first page : Held ℕ} {site : ℕ} {week : Week} (h : Making first si
       judged : r ≡ judged_as (sites_of h.named) j.site
       judged = j.judged (sites_of h.named) h.sums
 
-      remarked : remarks_after 0 h.named ++ remark_text (site + 1) r.verdict k.name ≡ remarks_after 0 (h.named ++ one ∷ [])
+      remarked : remarks_after 0 h.named ++ remark_text (site + 1) r.1 k.name ≡ remarks_after 0 (h.named ++ one ∷ [])
       remarked =
           ap₂ (λ (n : ℕ) (v : Verdict). remarks_after 0 h.named ++ remark_text n v k.name) number (judged_verdict (sites_of h.named) j.site judged)
           ∙ sym (remarks_snoc 0 h.named one)

@@ -82,12 +82,19 @@ fn sheet<R: Env + Files + Print>(rt: &R, sites: usize)
     let week = made.week;
     let past = made.past;
     let mut sums = [0u8; SUMS];
-    let mut page = Page::new(&mut sums);
-    sheet_text::sums(&mut page, week);
-    let written = page.past();
+    let written = put_sums(&mut sums, week);
     let mut out = io::writer(rt);
     let _ = out.write_all(&sums[..written]);
     let _ = out.write_all(&remarks[..past]);
+}
+
+// The sums from the start of a buffer; tells how many bytes they are.
+fn put_sums(out: &mut [u8], week: Week) -> usize
+    ensures { result ≤ length out.new }
+{
+    let mut page = Page::new(out);
+    sheet_text::sums(&mut page, week);
+    page.past()
 }
 
 // So many sites, one after the other, with what is remarked of them. Two buffers are lent for their files.
