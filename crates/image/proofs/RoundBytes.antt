@@ -70,12 +70,10 @@ module _ (cells : List ℕ) (r : RoundCell) (long : length cells ≡ cells_lengt
       λ i. record { length = byte_there 0 i; visits = byte_there 1 i; mark = mark i; running = running i; turn = turn i }
 
 -- A number's two bytes, each by a store.
-pub pair_stored : (image : List ℕ) (at n : ℕ) → n < pair_limit → set (set image at (n % byte_limit)) (at + 1) (n / byte_limit) ≡ sets image at (digits pair_room n)
+pub pair_stored : (image : List ℕ) (at n : ℕ)
+    → set (set image at (n % byte_limit)) (at + 1) (n / byte_limit % byte_limit) ≡ sets image at (digits pair_room n)
 unfolding digits
-pair_stored image at n fits =
-    let low = set image at (n % byte_limit) in
-    let high : n / byte_limit ≡ n / byte_limit % byte_limit = omega arith in
-    ap₂ (λ (k b : ℕ). set low k b) (add-one at) high
+pair_stored image at n = ap (λ (k : ℕ). set (set image at (n % byte_limit)) k (n / byte_limit % byte_limit)) (add-one at)
 
 -- A turn as the code takes it from its bytes.
 pub no_turn_from : (f allowed sent : ℕ) → f ≡ 0 → NoTurn ≡ turn_from f allowed sent

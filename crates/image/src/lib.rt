@@ -15,7 +15,7 @@ pub mod replies;
 
 // What C reads as a reply.
 #[repr(C)]
-#[derive(Clone, Copy)]
+#[derive(Clone, Copy, Default)]
 pub struct HbReply {
     pub kind: u16,
     pub refusal: u16,
@@ -49,15 +49,16 @@ fn pair_at(image: &[u8], at: usize) -> u16
     requires { at + pair_room ≤ length image.now }
     ensures { result ≡ pair_in image.now at }
 {
-    image[at] as u16 + 256 * image[at + 1] as u16
+    u16::from_le_bytes([image[at], image[at + 1]])
 }
 
 fn put_pair(image: &mut [u8], at: usize, n: u16)
     requires { at + pair_room ≤ length image.old }
     ensures { image.new ≡ sets image.old at (digits pair_room n) }
 {
-    image[at] = (n % 256) as u8;
-    image[at + 1] = (n / 256) as u8;
+    let [low, high] = n.to_le_bytes();
+    image[at] = low;
+    image[at + 1] = high;
 }
 
 // A turn's flow and one more lies there; 0 where no turn is open.
@@ -75,15 +76,12 @@ pub fn round_at(image: &[u8]) -> RoundCell
     requires { length image.now ≡ image_length }
     ensures { result ≡ round_in image.now }
 {
-    let mark = pair_at(image, MARK);
-    let running = pair_at(image, RUNNING);
-    let turn = turn_of(image[TURN], pair_at(image, ALLOWED), pair_at(image, SENT));
     RoundCell {
         length: image[LENGTH],
         visits: image[VISITS],
-        mark: mark,
-        running: running,
-        turn: turn,
+        mark: pair_at(image, MARK),
+        running: pair_at(image, RUNNING),
+        turn: turn_of(image[TURN], pair_at(image, ALLOWED), pair_at(image, SENT)),
     }
 }
 
@@ -105,8 +103,7 @@ pub fn put_round(image: &mut [u8], r: RoundCell)
     image[VISITS] = r.visits;
     put_pair(image, MARK, r.mark);
     put_pair(image, RUNNING, r.running);
-    let turn = r.turn;
-    match turn {
+    match r.turn {
         Serving::Turn(f, allowed, sent) => put_turn(image, f + 1, allowed, sent),
         Serving::NoTurn => put_turn(image, 0, 0, 0),
     }
@@ -121,11 +118,9 @@ pub fn counted(image: [u8; IMAGE])
 pub fn clear(image: &mut [u8])
     ensures { image.new ≡ replicate (length image.old) 0 }
 {
-    let mut i = 0;
-    while i < image.len() {
-        if image[i] != 0 {
-            image[i] = 0;
+    for byte in image.iter_mut() {
+        if *byte != 0 {
+            *byte = 0;
         }
-        i += 1;
     }
 }

@@ -1,60 +1,61 @@
 // A call's answer, reply or count as C reads it.
 ghost use Rattle.std.specs.Prelude.{◌≡◌, ◌<◌};
-ghost use Rattle.image.specs.Replies.{reply as reply_of, of_answer, of_reply, of_count, CountFits};
+ghost use Rattle.model.specs.Replies.{number_of};
+ghost use Rattle.image.specs.Replies.{reply as reply_of, refused_kind, number_of_kind, of_answer, of_offer, of_reply, of_count, CountFits, SlotFits};
 
 use crate::HbReply;
-use model::{Answer, Count, Reply};
+use model::{Refusal, Reply};
+use steps::Place;
 
-pub const DONE: u16 = 0;
+// What a reply is. C reads its number, so a reply's kind is a u16.
+#[derive(Clone, Copy)]
+pub enum Kind {
+    Done = 0,
+    Departure = 1,
+    Idle = 2,
+    Refused = 3,
+    Count = 4,
+}
 
-pub const DEPARTURE: u16 = 1;
-
-const IDLE: u16 = 2;
-
-const REFUSED: u16 = 3;
-
-const COUNT: u16 = 4;
-
-// A reply that has nothing but its kind and, where it is refused, the refusal's number.
-fn bare(kind: u16, refusal: u16) -> HbReply
-    ensures { result ≡ reply_of kind refusal }
+// What a reply's kind does not have is 0.
+fn bare(kind: Kind) -> HbReply
+    ensures { result ≡ reply_of (number_of_kind kind) 0 }
 {
     HbReply {
-        kind: kind,
-        refusal: refusal,
-        flow: 0,
-        size: 0,
-        mark: 0,
-        allowance: 0,
-        count: 0,
-        slot: 0,
-        later: [0u16; 8],
+        kind: kind as u16,
+        ..HbReply::default()
     }
 }
 
-pub fn refused(n: u8) -> HbReply
-    ensures { result ≡ reply_of 3 n }
+pub fn refused(refusal: Refusal) -> HbReply
+    ensures { result ≡ reply_of refused_kind (number_of refusal) }
 {
-    bare(REFUSED, n as u16)
+    HbReply {
+        refusal: refusal as u16,
+        ..bare(Kind::Refused)
+    }
 }
 
-pub fn of_answer(answer: Answer, slot: usize) -> HbReply
-    requires { slot < 65536 }
-    ensures { result ≡ of_answer answer slot }
+// The reply of a call that tells no place.
+pub fn of_answer(answer: Result<(), Refusal>) -> HbReply
+    ensures { result ≡ of_answer answer 0 }
 {
     match answer {
-        Answer::Done => HbReply {
-            kind: DONE,
-            refusal: 0,
-            flow: 0,
-            size: 0,
-            mark: 0,
-            allowance: 0,
-            count: 0,
-            slot: slot as u16,
-            later: [0u16; 8],
+        Ok(()) => bare(Kind::Done),
+        Err(refusal) => refused(refusal),
+    }
+}
+
+pub fn of_offer(offer: Result<Place, Refusal>) -> HbReply
+    requires { SlotFits offer }
+    ensures { result ≡ of_offer offer }
+{
+    match offer {
+        Ok(place) => HbReply {
+            slot: place.slot as u16,
+            ..bare(Kind::Done)
         },
-        Answer::Refused(n) => refused(n),
+        Err(refusal) => refused(refusal),
     }
 }
 
@@ -64,37 +65,27 @@ pub fn of_reply(reply: Reply, slot: usize) -> HbReply
 {
     match reply {
         Reply::Departure(sent) => HbReply {
-            kind: DEPARTURE,
-            refusal: 0,
             flow: sent.flow as u16,
             size: sent.size,
             mark: sent.mark,
             allowance: sent.allowance,
-            count: 0,
             slot: slot as u16,
-            later: [0u16; 8],
+            ..bare(Kind::Departure)
         },
-        Reply::Idle => bare(IDLE, 0),
-        Reply::Refused(n) => refused(n),
+        Reply::Idle => bare(Kind::Idle),
+        Reply::Refused(refusal) => refused(refusal),
     }
 }
 
-pub fn of_count(count: Count) -> HbReply
+pub fn of_count(count: Result<usize, Refusal>) -> HbReply
     requires { CountFits count }
     ensures { result ≡ of_count count }
 {
     match count {
-        Count::Made(n) => HbReply {
-            kind: COUNT,
-            refusal: 0,
-            flow: 0,
-            size: 0,
-            mark: 0,
-            allowance: 0,
-            count: n as u16,
-            slot: 0,
-            later: [0u16; 8],
+        Ok(made) => HbReply {
+            count: made as u16,
+            ..bare(Kind::Count)
         },
-        Count::Refused(n) => refused(n),
+        Err(refusal) => refused(refusal),
     }
 }

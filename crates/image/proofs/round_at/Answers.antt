@@ -10,9 +10,7 @@ unfolding round_in
 returns c =
     let image = c.args.image.now in
     let r = round_in image in
-    let mark = c.pair_at-mark.ensures in
-    let running = c.pair_at-running.ensures in
     let turn =
-    c.turn_of-turn.ensures
-    ∙ ap₂ (λ (n m : ℕ). turn_from (get_or image (round_start + 6) 0) n m) c.pair_at.ensures c.pair_at-2.ensures in
-    λ i. record { length = r.length; visits = r.visits; mark = mark i; running = running i; turn = turn i }
+    c.turn_of.ensures
+    ∙ ap₂ (λ (n m : ℕ). turn_from (get_or image (round_start + 6) 0) n m) c.pair_at-3.ensures c.pair_at-4.ensures in
+    λ i. record { length = r.length; visits = r.visits; mark = c.pair_at.ensures i; running = c.pair_at-2.ensures i; turn = turn i }
