@@ -1,38 +1,36 @@
 -- From what a call in place gives on the bytes of an image to what the call for firmware promises.
 use Prim.Native.Nat.{ℕ, ◌<◌}
-use mathlib.Core.Path.{◌≡◌, sym, ap, ◌∙◌, subst}
+use mathlib.Core.Path.{◌≡◌, refl, sym, ap, ◌∙◌, subst}
 use mathlib.Core.List.{List, ◌++◌}
 use native.Mathlib.Omega.{arith}
 use lib.ListN.{length, set, take, drop, length-append}
 use lib.Seq.{take_at, drop_at, set_at}
-use Rattle.model.specs.Model.{flow_at}
-use Rattle.model.specs.Calls.{Burst, offer_refusal, departures, burst, burst_made, burst_refusal}
-use Rattle.model.specs.Steps.{whose}
-use Rattle.model.specs.declared.Answer.{Answer}
-use Rattle.model.specs.declared.Count.TheVariants.{Refused as CountRefused}
-use Rattle.model.proofs.Choosing.{chosen_has}
+use lib.Dec.{ltb}
+use Rattle.std.specs.Prelude.{Result, Ok, Err}
+use Rattle.model.specs.Choose.{ok_with}
+use Rattle.model.specs.Model.{Scheduler, flow_at}
+use Rattle.model.specs.Calls.{Burst, put, unless_refused, offer_answer, offered, departures, burst, burst_made}
+use Rattle.model.specs.Replies.{Answer, Count}
+use Rattle.model.specs.Steps.{packet_joined, flow_lined, whose}
+use Rattle.model.specs.declared.Outcome.{Outcome}
+use Rattle.model.specs.declared.Refusal.{Refusal}
+use Rattle.model.specs.declared.Refusal.TheVariants.{ListShort}
+use Rattle.model.proofs.Choosing.{ok_has, tested_has}
 use Rattle.model.proofs.Waiting.{made_at_most}
-use Rattle.steps.specs.Places.{end_place, nowhere}
-use Rattle.steps.specs.Premises.{with_length}
+use Rattle.steps.specs.Places.{end_place}
 use Rattle.steps.specs.declared.Place.{Place}
 use Rattle.steps.specs.declared.RoundCell.{RoundCell}
 use Rattle.layout.specs.Layout.{cells_length}
-use Rattle.order.specs.Encoding.{view, Sound, state_with}
-use Rattle.order.specs.Promised.{OpenGives, OfferGives, DepartGives, BurstGives, opened_in, placed_in, departed_in, counted_in, offered_as, departed_as, counted_as}
+use Rattle.order.specs.Encoding.{encode, view, Sound, state_with}
+use Rattle.order.specs.Promised.{OpenGives, OfferGives, DepartGives, BurstGives, left_by, offered_as, departed_as, counted_as}
 use Rattle.order.specs.State.{State}
-use Rattle.order.specs.declared.LentOffer.{LentOffer}
-use Rattle.order.specs.declared.LentDeparture.{LentDeparture}
-use Rattle.order.specs.declared.LentBurst.{LentBurst}
-use Rattle.order.specs.declared.Placed.{Placed}
 use Rattle.order.specs.declared.Departed.{Departed}
-use Rattle.order.specs.declared.Counted.{Counted}
 use Rattle.order.proofs.StateLaws.{bytes_count}
 use Rattle.image.specs.Image.{round_bytes, image_of, image_length, round_start, round_in, state_in, TurnFits, SoundImage}
-use Rattle.houghbreeze.specs.Promised as Firmware
-use Rattle.houghbreeze.specs.Promised.{Gives}
-use Rattle.image.specs.Replies.{of_answer, of_reply, of_count, CountFits}
+use Rattle.houghbreeze.specs.Promised.{Gives, Leaves}
+use Rattle.image.specs.Replies.{CountFits, SlotFits}
 use Rattle.image.specs.declared.HbReply.{HbReply}
-use Rattle.image.proofs.ImageLaws.{turn_fits, image_sound}
+use Rattle.image.proofs.ImageLaws.{turn_fits, state_read, image_sound}
 use Rattle.image.proofs.RoundBytes.{round_bytes_length}
 
 -- What a call of the layer gives, with its image and its reply.
@@ -41,9 +39,64 @@ pub passes : {R : Type 0} {Promise : R → Type 0} {state_of : R → State} {say
 passes {state_of = state_of} given promise S {after} e says =
     record { given = given; promise = promise; image = e; says = says; sound = subst SoundImage (sym e) (image_sound (state_of given) S) }
 
+-- What a call in place leaves, in an image; and what C is then told of it.
+leaves : {A : Type 0} {Promise : Outcome State A → Type 0} (c : State) (reply : A) → Promise (record { state = c; reply = reply }) → Sound c
+    → {after : List ℕ} → after ≡ image_of c → Leaves Promise after reply
+leaves {A} {Promise} c reply promise S {after} e =
+    record {
+      promise = subst (λ (k : State). Promise (record { state = k; reply = reply })) (sym (ap state_in e ∙ state_read c S)) promise;
+      sound = subst SoundImage (sym e) (image_sound c S);
+    }
+
+pub told : {A : Type 0} {Promise : Outcome State A → Type 0} {saying : Outcome State A → HbReply} {after : List ℕ} {reply : A} → Leaves Promise after reply
+    → {r : HbReply} → r ≡ saying (record { state = state_in after; reply = reply }) → Gives Promise (λ a. a.state) saying after r
+told {after = after} {reply = reply} left says =
+    record { given = record { state = state_in after; reply = reply }; promise = left.promise; image = left.sound.form; says = says; sound = left.sound }
+
+-- Of the round an offer changes the line's length only.
+abbrev with_length : RoundCell → ℕ → RoundCell
+with_length r n = record r { length = n }
+
+abbrev LengthOnly : State → Scheduler → Type 0
+LengthOnly c s = (encode s).round ≡ with_length c.round (encode s).round.length
+
+offer_changes_length : (c : State) (f size : ℕ) (bytes : List ℕ) (then : RoundCell) (o : Result Place Refusal) → OfferGives c f size (left_by bytes then o)
+    → then ≡ with_length c.round then.length
+unfolding encode view offered offered_as unless_refused put flow_lined
+offer_changes_length c f size bytes then o g =
+    let x = flow_at (view c) f in
+    let given : then ≡ (encode (offered (view c) f size).state).round = ap (λ (a : Outcome State (Result Place Refusal)). a.state.round) g.outcome in
+    given
+    ∙ ok_has (LengthOnly c) (offer_answer f size x) (put (view c) f (packet_joined x size) (flow_lined (view c).round f x)) (view c) (λ z. refl) refl
+    ∙ ap (λ (q : RoundCell). with_length c.round q.length) (sym given)
+
+slot_fits : (a : Answer) (place : Place) → place.slot < 65536 → SlotFits (ok_with a place)
+slot_fits (Ok done) place h = h
+slot_fits (Err r) place h = tt
+
 module _ (image : List ℕ) (S : SoundImage image) where
   pub cells_lent : length (take cells_length image) ≡ cells_length
   cells_lent = bytes_count (state_in image) S.sound
+
+  -- What is told fits the fields of a reply.
+  pub offer_slot : {f size : ℕ} {r : Outcome State (Result Place Refusal)} → OfferGives (state_in image) f size r → SlotFits r.reply
+  unfolding offered_as
+  offer_slot {f} {size} g =
+      let x = flow_at (view (state_in image)) f in
+      rw (ap (λ (a : Outcome State (Result Place Refusal)). a.reply) g.outcome) (slot_fits (offer_answer f size x) (end_place f x size) (omega arith))
+
+  pub departure_slot : {r : Outcome State Departed} → DepartGives (state_in image) r → r.reply.from.slot < 65536
+  unfolding departed_as
+  departure_slot g =
+      rw (ap (λ (a : Outcome State Departed). a.reply.from) g.outcome) (omega (arith, (S.sound.rules.flow_rules (whose (view (state_in image)).round)).slot_in_range))
+
+  pub burst_count : {n : ℕ} {before list : List ℕ} {r : Outcome State Count} → BurstGives (state_in image) n before list r → CountFits r.reply
+  unfolding counted_as burst burst_made
+  burst_count {n} {before} g =
+      let s = view (state_in image) in
+      rw (ap (λ (a : Outcome State Count). a.reply) g.outcome)
+      (tested_has (λ (b : Burst). CountFits b.reply) (ltb (length before) n) (record { state = s; list = before; reply = Err ListShort }) (burst_made before (departures n s))
+      tt (λ z. omega (arith, made_at_most n s S.sound.rules)))
 
   round_lies : drop cells_length image ≡ round_bytes (round_in image)
   unfolding image_of
@@ -54,32 +107,28 @@ module _ (image : List ℕ) (S : SoundImage image) where
     pub lent_sound : Sound (state_with (take cells_length image) r)
     lent_sound = rw e S.sound
 
-    pub open_passes : (f weight : ℕ) (bytes : List ℕ) (a : Answer) → OpenGives (state_with (take cells_length image) r) f weight (opened_in bytes r a)
-        → (said : HbReply) → said ≡ of_answer a 0 → Firmware.OpenGives image f weight (bytes ++ drop cells_length image) said
+    pub open_passes : (f weight : ℕ) (bytes : List ℕ) (a : Answer) → OpenGives (state_with (take cells_length image) r) f weight (left_by bytes r a)
+        → Leaves (OpenGives (state_in image) f weight) (bytes ++ drop cells_length image) a
     unfolding image_of
-    open_passes f weight bytes a g said s =
-        passes (opened_in bytes (round_in image) a) (subst (λ (q : RoundCell). OpenGives (state_with (take cells_length image) q) f weight (opened_in bytes q a)) e g)
-        (subst (λ (q : RoundCell). Sound (state_with bytes q)) e g.sound) (ap (λ (l : List ℕ). bytes ++ l) round_lies) s
+    open_passes f weight bytes a g =
+        leaves (state_with bytes (round_in image)) a (subst (λ (q : RoundCell). OpenGives (state_with (take cells_length image) q) f weight (left_by bytes q a)) e g)
+        (subst (λ (q : RoundCell). Sound (state_with bytes q)) e g.sound) (ap (λ (l : List ℕ). bytes ++ l) round_lies)
 
-    module _ (f size : ℕ) (bytes : List ℕ) (o : LentOffer) (g : OfferGives (state_with (take cells_length image) r) f size (placed_in bytes r o)) where
-      pub offer_slot : o.into.slot < 65536
-      unfolding offered_as
-      offer_slot =
-          rw (ap (λ (p : Placed). p.into) g.outcome)
-          (chosen_has (λ (p : Place). p.slot < 65536) (offer_refusal f size (flow_at (view (state_with (take cells_length image) r)) f)) (end_place f (flow_at (view (state_with (take cells_length image) r)) f) size) nowhere (λ z. omega arith) (omega arith))
-
-      -- The line's length may be stored: it is the first of the round's bytes, and all that an offer changes of the round.
+    module _ (f size : ℕ) (bytes : List ℕ) (after : RoundCell) (o : Result Place Refusal)
+        (g : OfferGives (state_with (take cells_length image) r) f size (left_by bytes after o)) where
+      -- The line's length may be stored: it is the first of the round's bytes.
       pub length_lies : round_start < length (bytes ++ drop cells_length image)
       length_lies = omega (arith, length-append bytes (drop cells_length image), bytes_count _ g.sound, ap length round_lies, round_bytes_length (round_in image))
 
-      pub offer_passes : (said : HbReply) → said ≡ of_answer o.answer o.into.slot
-          → Firmware.OfferGives image f size (set (bytes ++ drop cells_length image) round_start o.length) said
+      pub offer_passes : Leaves (OfferGives (state_in image) f size) (set (bytes ++ drop cells_length image) round_start after.length) o
       unfolding image_of round_bytes
-      offer_passes said s =
-          passes (placed_in bytes (round_in image) o) (subst (λ (q : RoundCell). OfferGives (state_with (take cells_length image) q) f size (placed_in bytes q o)) e g)
-          (subst (λ (q : RoundCell). Sound (state_with bytes (with_length q o.length))) e g.sound)
-          (ap (λ (l : List ℕ). set (bytes ++ l) round_start o.length) round_lies ∙ set_at bytes (round_in image).length _ o.length round_start (bytes_count _ g.sound))
-          s
+      offer_passes =
+          let kept : after ≡ with_length (round_in image) after.length =
+          offer_changes_length _ f size bytes after o g ∙ ap (λ (q : RoundCell). with_length q after.length) e in
+          leaves (state_with bytes after) o (subst (λ (q : RoundCell). OfferGives (state_with (take cells_length image) q) f size (left_by bytes after o)) e g) g.sound
+          (ap (λ (l : List ℕ). set (bytes ++ l) round_start after.length) round_lies
+          ∙ set_at bytes (round_in image).length _ after.length round_start (bytes_count _ g.sound)
+          ∙ ap (λ (q : RoundCell). bytes ++ round_bytes q) (sym kept))
 
     module _ (bytes : List ℕ) (after : RoundCell) (T : Sound (state_with bytes after)) where
       -- What putting the round back may count on, and gives.
@@ -91,29 +140,17 @@ module _ (image : List ℕ) (S : SoundImage image) where
       unfolding image_of
       round_put p = p ∙ ap (λ (l : List ℕ). l ++ round_bytes after) (take_at bytes (drop cells_length image) cells_length (bytes_count (state_with bytes after) T))
 
-    module _ (bytes : List ℕ) (d : LentDeparture) (g : DepartGives (state_with (take cells_length image) r) (departed_in bytes d)) where
-      pub departure_slot : d.from.slot < 65536
-      unfolding departed_as
-      departure_slot =
-          rw (ap (λ (p : Departed). p.from) g.outcome) (omega (arith, (lent_sound.rules.flow_rules (whose (view (state_with (take cells_length image) r)).round)).slot_in_range))
+    module _ (bytes : List ℕ) (after : RoundCell) (d : Departed) (g : DepartGives (state_with (take cells_length image) r) (left_by bytes after d)) where
+      pub depart_passes : {then : List ℕ} → then ≡ take cells_length (bytes ++ drop cells_length image) ++ round_bytes after
+          → Leaves (DepartGives (state_in image)) then d
+      depart_passes p =
+          leaves (state_with bytes after) d (subst (λ (q : RoundCell). DepartGives (state_with (take cells_length image) q) (left_by bytes after d)) e g) g.sound
+          (round_put bytes after g.sound p)
 
-      pub depart_passes : {then : List ℕ} → then ≡ take cells_length (bytes ++ drop cells_length image) ++ round_bytes d.round
-          → (said : HbReply) → said ≡ of_reply d.reply d.from.slot → Firmware.DepartGives image then said
-      depart_passes p said s =
-          passes (departed_in bytes d) (subst (λ (q : RoundCell). DepartGives (state_with (take cells_length image) q) (departed_in bytes d)) e g) g.sound
-          (round_put bytes d.round g.sound p) s
-
-    module _ (n : ℕ) (before list bytes : List ℕ) (b : LentBurst) (g : BurstGives (state_with (take cells_length image) r) n before list (counted_in bytes b)) where
-      pub burst_count : CountFits b.count
-      unfolding counted_as burst burst_made
-      burst_count =
-          rw (ap (λ (p : Counted). p.count) g.outcome)
-          (chosen_has (λ (k : Burst). CountFits k.reply) (burst_refusal n before) (burst_made before (departures n (view (state_with (take cells_length image) r))))
-          (record { state = view (state_with (take cells_length image) r); list = before; reply = CountRefused (burst_refusal n before) })
-          (λ z. omega (arith, made_at_most n (view (state_with (take cells_length image) r)) lent_sound.rules)) tt)
-
-      pub burst_passes : {then : List ℕ} → then ≡ take cells_length (bytes ++ drop cells_length image) ++ round_bytes b.round
-          → (said : HbReply) → said ≡ of_count b.count → Firmware.BurstGives image n before list then said
-      burst_passes p said s =
-          passes (counted_in bytes b) (subst (λ (q : RoundCell). BurstGives (state_with (take cells_length image) q) n before list (counted_in bytes b)) e g) g.sound
-          (round_put bytes b.round g.sound p) s
+    module _ (n : ℕ) (before list bytes : List ℕ) (after : RoundCell) (k : Count)
+        (g : BurstGives (state_with (take cells_length image) r) n before list (left_by bytes after k)) where
+      pub burst_passes : {then : List ℕ} → then ≡ take cells_length (bytes ++ drop cells_length image) ++ round_bytes after
+          → Leaves (BurstGives (state_in image) n before list) then k
+      burst_passes p =
+          leaves (state_with bytes after) k (subst (λ (q : RoundCell). BurstGives (state_with (take cells_length image) q) n before list (left_by bytes after k)) e g) g.sound
+          (round_put bytes after g.sound p)

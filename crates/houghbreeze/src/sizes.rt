@@ -1,54 +1,49 @@
 // The calls on packet sizes, on the bytes of an image: the round is read off it, the call is made on the state's bytes in place, and what changed of the
-// round is put back.
-ghost use Rattle.image.specs.Image.{SoundImage};
-ghost use Rattle.houghbreeze.specs.Promised.{OpenGives, OfferGives, DepartGives, BurstGives};
+// round is put back. They reply as the layer does; the calls above tell it to C.
+ghost use Rattle.image.specs.Image.{SoundImage, state_in};
+ghost use Rattle.order.specs.Promised.{OpenGives, OfferGives, DepartGives, BurstGives};
+ghost use Rattle.houghbreeze.specs.Promised.{Leaves};
 
-use image::{HbReply, replies};
 use layout::CELLS;
-use order::in_place;
+use model::Refusal;
+use order::{Departed, in_place};
+use steps::Place;
 
-pub fn open(bytes: &mut [u8], f: usize, weight: usize) -> HbReply
+pub fn open(bytes: &mut [u8], f: usize, weight: usize) -> Result<(), Refusal>
     requires { SoundImage bytes.old }
-    ensures { OpenGives bytes.old f weight bytes.new result }
+    ensures { Leaves (OpenGives (state_in bytes.old) f weight) bytes.new result }
 {
     let round = image::round_at(bytes);
-    let answer = in_place::open(&mut bytes[..CELLS], round, f, weight);
-    replies::of_answer(answer, 0)
+    in_place::open(&mut bytes[..CELLS], round, f, weight)
 }
 
-pub fn offer(bytes: &mut [u8], f: usize, size: usize) -> HbReply
+pub fn offer(bytes: &mut [u8], f: usize, size: usize) -> Result<Place, Refusal>
     requires { SoundImage bytes.old }
-    ensures { OfferGives bytes.old f size bytes.new result }
+    ensures { Leaves (OfferGives (state_in bytes.old) f size) bytes.new result }
 {
-    let round = image::round_at(bytes);
-    let step = in_place::offer(&mut bytes[..CELLS], round, f, size);
-    bytes[image::LENGTH] = step.length;
-    let answer = step.answer;
-    let into = step.into;
-    replies::of_answer(answer, into.slot)
+    let mut round = image::round_at(bytes);
+    let reply = in_place::offer(&mut bytes[..CELLS], &mut round, f, size);
+    // Of the round an offer changes the line's length only.
+    bytes[image::LENGTH] = round.length;
+    reply
 }
 
-pub fn depart(bytes: &mut [u8]) -> HbReply
+pub fn depart(bytes: &mut [u8]) -> Departed
     requires { SoundImage bytes.old }
-    ensures { DepartGives bytes.old bytes.new result }
+    ensures { Leaves (DepartGives (state_in bytes.old)) bytes.new result }
 {
-    let round = image::round_at(bytes);
-    let step = in_place::depart(&mut bytes[..CELLS], round);
-    let after = step.round;
-    image::put_round(bytes, after);
-    let reply = step.reply;
-    let from = step.from;
-    replies::of_reply(reply, from.slot)
+    let mut round = image::round_at(bytes);
+    let reply = in_place::depart(&mut bytes[..CELLS], &mut round);
+    image::put_round(bytes, round);
+    reply
 }
 
-pub fn burst(bytes: &mut [u8], n: usize, list: &mut [u8]) -> HbReply
+pub fn burst(bytes: &mut [u8], n: usize, list: &mut [u8]) -> Result<usize, Refusal>
     requires { SoundImage bytes.old }
-    ensures { BurstGives bytes.old n list.old list.new bytes.new result }
+    ensures { Leaves (BurstGives (state_in bytes.old) n list.old list.new) bytes.new result }
 {
-    let round = image::round_at(bytes);
-    let step = in_place::burst(&mut bytes[..CELLS], round, n, list);
-    let after = step.round;
-    image::put_round(bytes, after);
-    let count = step.count;
-    replies::of_count(count)
+    let mut round = image::round_at(bytes);
+    let reply = in_place::burst(&mut bytes[..CELLS], &mut round, n, list);
+    image::put_round(bytes, round);
+    reply
 }

@@ -109,11 +109,6 @@ pub fn put_round(image: &mut [u8], r: RoundCell)
     }
 }
 
-// Does nothing: by taking an image whole it tells the prover how many bytes were lent.
-pub fn counted(image: [u8; IMAGE])
-    ensures { length image ≡ image_length }
-{}
-
 // A byte that is 0 is not written: a loop that writes every byte would become a call of C's memset.
 pub fn clear(image: &mut [u8])
     ensures { image.new ≡ replicate (length image.old) 0 }

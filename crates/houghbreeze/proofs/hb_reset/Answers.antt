@@ -6,4 +6,4 @@ use Rattle.houghbreeze.proofs.ResetLaws.{reset_passes}
 use Rattle.houghbreeze.proofs.hb_reset.Goals as goal
 
 pub returns : goal.returns
-returns c = reset_passes (c.clear.ensures ∙ ap (λ (n : ℕ). replicate n 0) c.counted.ensures)
+returns c = reset_passes (c.clear.ensures ∙ ap (λ (n : ℕ). replicate n 0) c.told-s)

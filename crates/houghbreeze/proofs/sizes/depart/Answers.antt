@@ -2,7 +2,7 @@
 use native.Mathlib.Omega.{arith}
 use mathlib.Core.Path.{sym}
 use Rattle.image.proofs.ImageLaws.{sound_image_length}
-use Rattle.houghbreeze.proofs.SizesLaws.{cells_lent, may_put_round, departure_slot, depart_passes}
+use Rattle.houghbreeze.proofs.SizesLaws.{cells_lent, may_put_round, depart_passes}
 use Rattle.houghbreeze.proofs.sizes.depart.Goals as goal
 
 pub round_at-round-requires : goal.round_at-round-requires
@@ -14,15 +14,15 @@ slice_bounds-depart-end c = omega (arith, sound_image_length c.requires)
 pub slice_bounds-depart-end-2 : goal.slice_bounds-depart-end-2
 slice_bounds-depart-end-2 c = sym (cells_lent c.args.bytes.now c.requires)
 
-pub put_round-requires : goal.put_round-requires
-put_round-requires c = let all = may_put_round c.args.bytes.now c.requires c.round_at-round.result c.round_at-round.ensures c.depart-step.new.cells c.depart-step.result.round
-    c.depart-step.ensures.sound in record { image_len = all.0; turn_fits = all.1 }
+pub put_round-requires-clause-image_len : goal.put_round-requires-clause-image_len
+put_round-requires-clause-image_len c =
+    (may_put_round c.args.bytes.now c.requires c.round_at-round.result c.round_at-round.ensures c.depart-reply.new.cells c.depart-reply.new.r c.depart-reply.ensures.sound).0
 
-pub of_reply-requires : goal.of_reply-requires
-of_reply-requires c =
-    departure_slot c.args.bytes.now c.requires c.round_at-round.result c.round_at-round.ensures c.depart-step.new.cells c.depart-step.result c.depart-step.ensures
+pub put_round-requires-clause-turn_fits : goal.put_round-requires-clause-turn_fits
+put_round-requires-clause-turn_fits c =
+    (may_put_round c.args.bytes.now c.requires c.round_at-round.result c.round_at-round.ensures c.depart-reply.new.cells c.depart-reply.new.r c.depart-reply.ensures.sound).1
 
 pub returns : goal.returns
 returns c =
-    depart_passes c.args.bytes.now c.requires c.round_at-round.result c.round_at-round.ensures c.depart-step.new.cells c.depart-step.result c.depart-step.ensures
-    c.put_round.ensures c.of_reply.result c.of_reply.ensures
+    depart_passes c.args.bytes.now c.requires c.round_at-round.result c.round_at-round.ensures c.depart-reply.new.cells c.depart-reply.new.r
+    c.depart-reply.result c.depart-reply.ensures c.put_round.ensures

@@ -16,6 +16,5 @@ slice_bounds-open-end-2 c = sym (cells_lent c.args.bytes.now c.requires)
 
 pub returns : goal.returns
 returns c =
-    let «open» = c.open-answer in
-    open_passes c.args.bytes.now c.requires c.round_at-round.result c.round_at-round.ensures c.args.f c.args.weight «open».new.cells
-    «open».result «open».ensures c.of_answer.result c.of_answer.ensures
+    open_passes c.args.bytes.now c.requires c.round_at-round.result c.round_at-round.ensures c.args.f c.args.weight c.open.new.cells
+    c.open.result c.open.ensures
