@@ -1,4 +1,4 @@
--- From what a call in place gives on the bytes of an image to what the call for firmware promises.
+-- From what a call in place gives on the bytes of an image to what it leaves of the image, and what C may then be told.
 use Prim.Native.Nat.{ℕ, ◌<◌}
 use mathlib.Core.Path.{◌≡◌, refl, sym, ap, ◌∙◌, subst}
 use mathlib.Core.List.{List, ◌++◌}
@@ -39,7 +39,7 @@ pub passes : {R : Type 0} {Promise : R → Type 0} {state_of : R → State} {say
 passes {state_of = state_of} given promise S {after} e says =
     record { given = given; promise = promise; image = e; says = says; sound = subst SoundImage (sym e) (image_sound (state_of given) S) }
 
--- What a call in place leaves, in an image; and what C is then told of it.
+-- What a call in place leaves, in an image.
 leaves : {A : Type 0} {Promise : Outcome State A → Type 0} (c : State) (reply : A) → Promise (record { state = c; reply = reply }) → Sound c
     → {after : List ℕ} → after ≡ image_of c → Leaves Promise after reply
 leaves {A} {Promise} c reply promise S {after} e =
@@ -47,11 +47,6 @@ leaves {A} {Promise} c reply promise S {after} e =
       promise = subst (λ (k : State). Promise (record { state = k; reply = reply })) (sym (ap state_in e ∙ state_read c S)) promise;
       sound = subst SoundImage (sym e) (image_sound c S);
     }
-
-pub told : {A : Type 0} {Promise : Outcome State A → Type 0} {saying : Outcome State A → HbReply} {after : List ℕ} {reply : A} → Leaves Promise after reply
-    → {r : HbReply} → r ≡ saying (record { state = state_in after; reply = reply }) → Gives Promise (λ a. a.state) saying after r
-told {after = after} {reply = reply} left says =
-    record { given = record { state = state_in after; reply = reply }; promise = left.promise; image = left.sound.form; says = says; sound = left.sound }
 
 -- Of the round an offer changes the line's length only.
 abbrev with_length : RoundCell → ℕ → RoundCell
@@ -104,9 +99,6 @@ module _ (image : List ℕ) (S : SoundImage image) where
 
   -- The round is read off the image, and the call made on the state's bytes, which come back as `bytes`.
   module _ (r : RoundCell) (e : r ≡ round_in image) where
-    pub lent_sound : Sound (state_with (take cells_length image) r)
-    lent_sound = rw e S.sound
-
     pub open_passes : (f weight : ℕ) (bytes : List ℕ) (a : Answer) → OpenGives (state_with (take cells_length image) r) f weight (left_by bytes r a)
         → Leaves (OpenGives (state_in image) f weight) (bytes ++ drop cells_length image) a
     unfolding image_of

@@ -28,6 +28,7 @@ pub struct HbReply {
     pub later: [u16; 8],
 }
 
+// Where each number of the round lies, behind the bytes of the flows and the line; and how many bytes there are.
 pub const LENGTH: usize = CELLS;
 
 const VISITS: usize = LENGTH + 1;

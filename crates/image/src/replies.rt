@@ -7,7 +7,7 @@ use crate::HbReply;
 use model::{Refusal, Reply};
 use steps::Place;
 
-// What a reply is. C reads its number, so a reply's kind is a u16.
+// What a reply is. C reads the number, an exported function giving no enum, so HbReply has it as a u16.
 #[derive(Clone, Copy)]
 pub enum Kind {
     Done = 0,
@@ -36,7 +36,7 @@ pub fn refused(refusal: Refusal) -> HbReply
     }
 }
 
-// The reply of a call that tells no place.
+// The answer of a call that tells no place.
 pub fn of_answer(answer: Result<(), Refusal>) -> HbReply
     ensures { result ≡ of_answer answer 0 }
 {
