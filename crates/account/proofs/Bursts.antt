@@ -3,15 +3,17 @@
 use Prim.Native.Nat.{ℕ, zero, suc}
 use mathlib.Core.Path.{◌≡◌, refl, sym, ap, ap₂, ◌∙◌, subst}
 use mathlib.Core.List.{List, [], ◌∷◌, ◌++◌, append-nil, append_assoc}
-use lib.ListN.{replicate}
-use Rattle.model.specs.Choose.{if_zero}
+use mathlib.Core.Bool.{Bool, true, false, cond}
+use lib.Dec.{ltb}
+use lib.ListN.{length, replicate}
+use Rattle.std.specs.Prelude.{Err}
 use Rattle.model.specs.Model.{Scheduler}
-use Rattle.model.specs.Calls.{Burst, departed, departures, and_then, burst, burst_made, burst_refusal}
+use Rattle.model.specs.Calls.{Burst, departed, departures, and_then, burst, burst_made}
 use Rattle.model.specs.Replies.{sent_by, made_by}
 use Rattle.model.specs.Chain.{Seen, Effect, moved, next, chain, over, seen_over}
 use Rattle.model.specs.OrderCalls.{Call, Packet, resetting, opening, offering, departing, bursting, turn_then, turns_of, does, order_calls}
 use Rattle.model.specs.declared.Sent.{Sent}
-use Rattle.model.specs.declared.Count.TheVariants.{Refused as CountRefused}
+use Rattle.model.specs.declared.Refusal.TheVariants.{ListShort}
 use Rattle.model.specs.declared.Reply.{Reply}
 use Rattle.model.specs.declared.Reply.TheVariants.{Departure, Idle, Refused}
 use Rattle.model.specs.declared.Serving.{Serving}
@@ -28,7 +30,7 @@ singly resetting = resetting ∷ []
 singly (opening f weight) = opening f weight ∷ []
 singly (offering f size) = offering f size ∷ []
 singly departing = departing ∷ []
-singly (bursting n list) = if_zero (burst_refusal n list) (replicate n departing) []
+singly (bursting n list) = cond (ltb (length list) n) [] (replicate n departing)
 
 unfoldable pub one_by_one : List Call → List Call
 one_by_one [] = []
@@ -149,34 +151,34 @@ same_as h calls others g w = record { history_same = g.history_given; sent_same 
 itself : (h : OrderHistory) (calls : List Call) → SameAs h calls calls
 itself h calls = record { history_same = refl; sent_same = refl; turns_same = refl; waiting_same = λ f w. w }
 
-burst_singly : (h : OrderHistory) (n : ℕ) (list : List ℕ) → SameAs h (if_zero (burst_refusal n list) (replicate n departing) []) (bursting n list ∷ [])
+burst_singly : (h : OrderHistory) (n : ℕ) (list : List ℕ) → SameAs h (cond (ltb (length list) n) [] (replicate n departing)) (bursting n list ∷ [])
 unfolding chain next moved does over left_over burst burst_made WaitingAfterEvery
 burst_singly h n list =
-    same_as h _ (bursting n list ∷ []) (go (burst_refusal n list) (burst_refusal n list)) (still_waits (burst_refusal n list) (burst_refusal n list))
+    same_as h _ (bursting n list ∷ []) (go (ltb (length list) n)) (still_waits (ltb (length list) n))
   where
     s : Scheduler
     s = h.state
 
-    given : ℕ → ℕ → Burst
-    given k m = if_zero k (burst_made list (departures n s)) (record { state = s; list = list; reply = CountRefused m })
+    given : Bool → Burst
+    given short = cond short (record { state = s; list = list; reply = Err ListShort }) (burst_made list (departures n s))
 
-    go : (k m : ℕ)
-        → Gives h (if_zero k (replicate n departing) []) (history_of (given k m).state (h.accepted ++ []) (h.left ++ made_by (given k m).reply (departures n s).sent))
-        (made_by (given k m).reply (departures n s).sent ++ [])
-        (made_by (given k m).reply (turns_of n s) ++ [])
-    go zero m =
+    go : (short : Bool)
+        → Gives h (cond short [] (replicate n departing)) (history_of (given short).state (h.accepted ++ []) (h.left ++ made_by (given short).reply (departures n s).sent))
+        (made_by (given short).reply (departures n s).sent ++ [])
+        (made_by (given short).reply (turns_of n s) ++ [])
+    go false =
         let singles = departures_singly n h in
         record {
           history_given = singles.history_given ∙ ap (λ (a : List Packet). history_of (departures n s).state a (h.left ++ (departures n s).sent)) (sym (append-nil h.accepted));
           sent_given = singles.sent_given ∙ sym (append-nil (departures n s).sent);
           turns_given = singles.turns_given ∙ sym (append-nil (turns_of n s));
         }
-    go (suc k) m =
+    go true =
         record { history_given = λ i. history_of s (sym (append-nil h.accepted) i) (sym (append-nil h.left) i); sent_given = refl; turns_given = refl }
 
-    still_waits : (k m : ℕ) (f : ℕ) → Waiting (given k m).state f × Unit {0} → WaitingAfterEvery order_calls f s (if_zero k (replicate n departing) [])
-    still_waits zero m f w = waits_singly n f h w.0
-    still_waits (suc k) m f w = tt
+    still_waits : (short : Bool) (f : ℕ) → Waiting (given short).state f × Unit {0} → WaitingAfterEvery order_calls f s (cond short [] (replicate n departing))
+    still_waits false f w = waits_singly n f h w.0
+    still_waits true f w = tt
 
 call_singly : (h : OrderHistory) (c : Call) → SameAs h (singly c) (c ∷ [])
 unfolding singly

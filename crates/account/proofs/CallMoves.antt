@@ -4,13 +4,15 @@ use mathlib.Core.Path.{◌≡◌, refl, sym, ap}
 use mathlib.Core.List.{List, [], ◌∷◌, ◌++◌}
 use native.Mathlib.Omega.{arith}
 use lib.ListN.{length}
+use lib.Dec.{ltb}
 use lib.Seq.{take-append-le, drop-append-le}
+use Rattle.std.specs.Prelude.{Ok}
 use Rattle.model.specs.Limits.{flow_limit}
 use Rattle.model.specs.Model.{Flow, Round, Scheduler, flow_at}
 use Rattle.model.specs.Steps.{packet_joined, flow_lined}
-use Rattle.model.specs.Calls.{Burst, put, open_flow, opened, offered, departed, departures, and_then, burst, burst_made, unless_refused, open_refusal, offer_refusal, burst_refusal}
+use Rattle.model.specs.Calls.{Burst, put, open_flow, opened, offered, departed, departures, and_then, burst, burst_made, unless_refused, open_answer, offer_answer}
 use Rattle.model.specs.Rules.{RoundRules, Rules}
-use Rattle.model.specs.Replies.{sent_by, made_by}
+use Rattle.model.specs.Replies.{Answer, sent_by, made_by}
 use Rattle.model.specs.OrderCalls.{Call, resetting, opening, offering, departing, bursting, turn_then, turns_of, does}
 use Rattle.model.specs.declared.Sent.{Sent}
 use Rattle.model.specs.declared.Reply.{Reply}
@@ -22,7 +24,7 @@ use Rattle.model.proofs.Flows.{at_others, here_now}
 use Rattle.model.proofs.Keeps.{departed_keeps}
 use Rattle.model.proofs.Parts.{flow_made_of}
 use Rattle.model.proofs.Departing.{departures_add_none}
-use Rattle.model.proofs.Choosing.{chosen_has}
+use Rattle.model.proofs.Choosing.{ok_has, tested_has}
 use Rattle.account.proofs.Circle.{circle_of, visits_of_line, flow_joins, packet_joins, flow_opens, Moves, stands, moves, follows, Renewed, Waits, Backwards}
 use Rattle.account.proofs.Departure.{renewed, departure_moves}
 
@@ -82,22 +84,22 @@ module _ (Wanted : (ℕ → Flow) → Type 0) (s : Scheduler) (R : Rules s) wher
       now = here_now s R reach (open_flow weight) s.round
 
   -- A refusal changes nothing.
-  unless_refused_moves : (n : ℕ) (t : Scheduler) → (n ≡ 0 → Wanted (flow_at t) → Moves Wanted (circle_of s) (circle_of t) [] [])
-      → Wanted (flow_at (unless_refused n s t).state) → Moves Wanted (circle_of s) (circle_of (unless_refused n s t).state) [] []
+  unless_refused_moves : (a : Answer) (t : Scheduler) → (a ≡ Ok tt → Wanted (flow_at t) → Moves Wanted (circle_of s) (circle_of t) [] [])
+      → Wanted (flow_at (unless_refused a s t).state) → Moves Wanted (circle_of s) (circle_of (unless_refused a s t).state) [] []
   unfolding unless_refused
-  unless_refused_moves n t effect =
-      chosen_has (λ k. Wanted (flow_at k) → Moves Wanted (circle_of s) (circle_of k) [] []) n t s effect (λ W. stands)
+  unless_refused_moves a t effect =
+      ok_has (λ k. Wanted (flow_at k) → Moves Wanted (circle_of s) (circle_of k) [] []) a t s effect (λ W. stands)
 
   offered_moves : (g size : ℕ) → Wanted (flow_at (offered s g size).state) → Moves Wanted (circle_of s) (circle_of (offered s g size).state) [] []
   unfolding offered
   offered_moves g size =
-      unless_refused_moves (offer_refusal g size (flow_at s g)) (put s g (packet_joined (flow_at s g) size) (flow_lined s.round g (flow_at s g)))
+      unless_refused_moves (offer_answer g size (flow_at s g)) (put s g (packet_joined (flow_at s g) size) (flow_lined s.round g (flow_at s g)))
       (λ e. packet_moves g size (may_offer g size (flow_at s g) e).flow_in_range (flow_at s g).weight (flow_at s g).surplus (flow_at s g).slot (flow_at s g).queue refl)
 
   opened_moves : (g weight : ℕ) → Wanted (flow_at (opened s g weight).state) → Moves Wanted (circle_of s) (circle_of (opened s g weight).state) [] []
   unfolding opened
   opened_moves g weight =
-      unless_refused_moves (open_refusal g weight (flow_at s g)) (put s g (open_flow weight) s.round)
+      unless_refused_moves (open_answer g weight (flow_at s g)) (put s g (open_flow weight) s.round)
       (λ e. opening_moves g weight (may_open g weight (flow_at s g) e).flow_in_range)
 
 -- A flow that waits after some departures waited before them.
@@ -133,5 +135,5 @@ module _ (Wanted : (ℕ → Flow) → Type 0) (back : Backwards Wanted) where
   call_moves s (offering g size) R no_reset W = offered_moves Wanted s R g size W
   call_moves s departing R no_reset W = departure_moves Wanted back s R W
   call_moves s (bursting n list) R no_reset W =
-      chosen_has (λ (b : Burst). MovesTo s b.state (made_by b.reply (departures n s).sent) (made_by b.reply (turns_of n s)))
-      (burst_refusal n list) (burst_made list (departures n s)) _ (λ e. departures_move n s R) (λ W. stands) W
+      tested_has (λ (b : Burst). MovesTo s b.state (made_by b.reply (departures n s).sent) (made_by b.reply (turns_of n s)))
+      (ltb (length list) n) _ (burst_made list (departures n s)) (λ W. stands) (λ e. departures_move n s R) W
