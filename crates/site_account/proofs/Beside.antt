@@ -1,20 +1,22 @@
 -- A chain of store calls beside the order layer's chain of the same offers and departures: call by call the states agree, and so do the flows and the
 -- lengths of what leaves, the turns completed and who waits.
-use Prim.Native.Nat.{ℕ, zero, suc, ◌≤◌}
+use Prim.Native.Nat.{ℕ, ◌≤◌}
 use mathlib.Core.Path.{◌≡◌, refl, sym, ap, ap₂, ◌∙◌, subst}
 use mathlib.Core.List.{List, [], ◌∷◌, ◌++◌, append-nil}
 use mathlib.Core.Bool.{Bool, true, false, cond}
 use native.Mathlib.Omega.{arith}
 use lib.ListN.{length}
 use lib.Dec.{eqb, ltb}
-use Rattle.model.specs.Choose.{if_zero}
+use Rattle.std.specs.Prelude.{Ok, Err}
+use Rattle.model.specs.Choose.{if_ok}
 use Rattle.model.specs.Model.{Scheduler}
 use Rattle.model.specs.Calls.{departed}
-use Rattle.model.specs.Replies.{sent_by}
+use Rattle.model.specs.Replies.{Answer, sent_by}
 use Rattle.model.specs.Rules.{Rules}
 use Rattle.model.specs.Chain.{moved, next, chain, over}
 use Rattle.model.specs.OrderCalls.{Call, packets_of, Packet as SizedPacket, turn_then, order_calls}
 use Rattle.model.specs.OrderCalls as SizeCall
+use Rattle.model.specs.declared.Refusal.TheVariants.{OutShort, StoreWrong}
 use Rattle.model.specs.declared.Sent.{Sent}
 use Rattle.model.specs.declared.Reply.{Reply}
 use Rattle.model.specs.declared.Reply.TheVariants.{Departure, Idle, Refused}
@@ -22,7 +24,7 @@ use Rattle.model.proofs.Chains.{OrderHistory, chain_append}
 use Rattle.account.specs.Stretch.{left_over, Waiting, WaitingAfterEvery, sent_in, turns_in}
 use Rattle.account.proofs.Bursts.{sent_from, turns_from, sent_append, turns_append, waiting_append}
 use Rattle.store.specs.Slots.{store_length, out_limit}
-use Rattle.store.specs.Calls.{AfterDeparture, store_depart, store_depart_refusal}
+use Rattle.store.specs.Calls.{AfterDeparture, store_depart, store_depart_answer}
 use Rattle.store.specs.StoreCalls.{StoreCall, resetting, opening, offering, departing, WithStore, with_store, lent, Packet, does, store_calls}
 use Rattle.store.proofs.CallLaws.{depart_refused, depart_made}
 use Rattle.store.proofs.Lending.{lent_length}
@@ -33,14 +35,18 @@ use Rattle.site_account.proofs.Packets.{sized, sized_append, packets_append}
 
 -- ---- what leaves with one call, and the turn that it completes
 
+-- What a store departure answers, by whether all of the store is lent and whether the outgoing buffer is too short.
+abbrev answer_where : Bool → Bool → Answer
+answer_where whole short = cond whole (cond short (Err OutShort) (Ok tt)) (Err StoreWrong)
+
 -- A store departure is the order layer's where it is not refused for what is lent, and otherwise no call.
-departure_on_sizes : (store : List ℕ) (n : ℕ) (out : List ℕ) → on_sizes (departing n out) ≡ if_zero (store_depart_refusal (lent n store) out) (SizeCall.departing ∷ []) []
+departure_on_sizes : (store : List ℕ) (n : ℕ) (out : List ℕ) → on_sizes (departing n out) ≡ if_ok (store_depart_answer (lent n store) out) (SizeCall.departing ∷ []) []
 unfolding on_sizes
 departure_on_sizes store n out =
     by (eqb n store_length) (ltb (length out) out_limit)
-    ∙ ap (λ (m : ℕ). if_zero (cond (eqb m store_length) (cond (ltb (length out) out_limit) 7 0) 8) (SizeCall.departing ∷ []) []) (sym (lent_length n store))
+    ∙ ap (λ (m : ℕ). if_ok (answer_where (eqb m store_length) (ltb (length out) out_limit)) (SizeCall.departing ∷ []) []) (sym (lent_length n store))
   where
-    by : (whole short : Bool) → cond whole (cond short [] (SizeCall.departing ∷ [])) [] ≡ if_zero (cond whole (cond short 7 0) 8) (SizeCall.departing ∷ []) []
+    by : (whole short : Bool) → cond whole (cond short [] (SizeCall.departing ∷ [])) [] ≡ if_ok (answer_where whole short) (SizeCall.departing ∷ []) []
     by true true = refl
     by true false = refl
     by false true = refl
@@ -57,31 +63,31 @@ module _ (k : OrderHistory) (R : Rules k.state) (store : List ℕ) (whole : leng
   departure_sent : sized (taken made) ≡ packets_of (sent_from k (on_sizes (departing n out)))
   unfolding over left_over SizeCall.does
   departure_sent =
-      by (store_depart_refusal (lent n store) out) refl
+      by (store_depart_answer (lent n store) out) refl
       ∙ ap (λ (l : List Call). packets_of (sent_from k l)) (sym (departure_on_sizes store n out))
     where
-      reply_by : (r : Reply) → (departed k.state).reply ≡ r → store_depart_refusal (lent n store) out ≡ 0 → sized (taken made) ≡ packets_of (sent_by r ++ [])
+      reply_by : (r : Reply) → (departed k.state).reply ≡ r → store_depart_answer (lent n store) out ≡ Ok tt → sized (taken made) ≡ packets_of (sent_by r ++ [])
       reply_by (Departure d) e z =
           ap sized (first_taken k.state R store whole n out z d e)
           ∙ ap (λ (m : ℕ). record { flow = d.flow; size = m } ∷ []) (as_many_held k.state R store whole n out z d e)
       reply_by Idle e z = nothing_sent (ap sent_by ((depart_made k.state (lent n store) out z).2 ∙ e))
       reply_by (Refused m) e z = nothing_sent (ap sent_by ((depart_made k.state (lent n store) out z).2 ∙ e))
 
-      by : (m : ℕ) → store_depart_refusal (lent n store) out ≡ m
-          → sized (taken made) ≡ packets_of (sent_from k (if_zero m (SizeCall.departing ∷ []) []))
-      by zero z = reply_by (departed k.state).reply refl z
-      by (suc m) e = nothing_sent (ap sent_by (depart_refused k.state (lent n store) out m e).2)
+      by : (a : Answer) → store_depart_answer (lent n store) out ≡ a
+          → sized (taken made) ≡ packets_of (sent_from k (if_ok a (SizeCall.departing ∷ []) []))
+      by (Ok tt) z = reply_by (departed k.state).reply refl z
+      by (Err r) e = nothing_sent (ap sent_by (depart_refused k.state (lent n store) out r e).2)
 
   departure_turns : turn_then made.reply made.state.round.turn [] ≡ turns_from k (on_sizes (departing n out))
   unfolding over SizeCall.does SizeCall.turns_of turn_then
-  departure_turns = by (store_depart_refusal (lent n store) out) refl ∙ ap (turns_from k) (sym (departure_on_sizes store n out))
+  departure_turns = by (store_depart_answer (lent n store) out) refl ∙ ap (turns_from k) (sym (departure_on_sizes store n out))
     where
-      by : (m : ℕ) → store_depart_refusal (lent n store) out ≡ m
-          → turn_then made.reply made.state.round.turn [] ≡ turns_from k (if_zero m (SizeCall.departing ∷ []) [])
-      by zero z =
+      by : (a : Answer) → store_depart_answer (lent n store) out ≡ a
+          → turn_then made.reply made.state.round.turn [] ≡ turns_from k (if_ok a (SizeCall.departing ∷ []) [])
+      by (Ok tt) z =
           ap₂ (λ (r : Reply) (t : Scheduler). turn_then r t.round.turn []) (depart_made k.state (lent n store) out z).2 (depart_made k.state (lent n store) out z).0
           ∙ sym (append-nil (turn_then (departed k.state).reply (departed k.state).state.round.turn []))
-      by (suc m) e = ap (λ (r : Reply). turn_then r made.state.round.turn []) (depart_refused k.state (lent n store) out m e).2
+      by (Err r) e = ap (λ (q : Reply). turn_then q made.state.round.turn []) (depart_refused k.state (lent n store) out r e).2
 
 module _ (k : OrderHistory) (R : Rules k.state) (store : List ℕ) (whole : length store ≡ store_length) where
   call_sent : (c : StoreCall) → sized (does (with_store k.state store) c).seen.sends ≡ packets_of (sent_from k (on_sizes c))
