@@ -1,5 +1,6 @@
 -- The theorems. A reader who believes the definitions that these statements reach (tools/believed lists them) need not look at any proof.
 use Prim.Native.Nat.{ℕ, ◌≤◌, ◌%◌}
+use Rattle.std.specs.Prelude.{Result, Err}
 use mathlib.Core.Path.{◌≡◌, refl, sym, ap, ◌∙◌, subst}
 use mathlib.Core.List.{List, [], ◌∷◌, ◌++◌}
 use lib.ListN.{length, drop}
@@ -7,28 +8,27 @@ use Rattle.model.specs.Limits.{queue_limit}
 use Rattle.model.specs.Model.{Scheduler, flow_at, new_scheduler}
 use Rattle.model.specs.Steps.{next_slot_of}
 use Rattle.model.specs.Calls.{burst, flow_numbers}
-use Rattle.model.specs.Replies.{told}
+use Rattle.model.specs.Replies.{Answer, Count, number_of, told}
 use Rattle.model.specs.Rules.{count, standing}
 use Rattle.model.specs.Chain.{Seen, begin, chain}
 use Rattle.model.specs.OrderCalls.{Call, Packet, departing, bursting, order_calls}
-use Rattle.model.specs.declared.Answer.TheVariants.{Refused as AnswerRefused}
-use Rattle.model.specs.declared.Count.TheVariants.{Refused as CountRefused}
+use Rattle.model.specs.declared.Outcome.{Outcome}
+use Rattle.model.specs.declared.Refusal.{Refusal}
+use Rattle.model.specs.declared.Reply.{Reply}
 use Rattle.model.specs.declared.Reply.TheVariants.{Refused}
 use Rattle.model.specs.declared.Sent.{Sent}
 use Rattle.model.proofs.Demand2.{nothing_lost, every_state_keeps_the_rules}
 use Rattle.model.proofs.Departing.{never_refused}
 use Rattle.model.proofs.Standing.{never_twice}
 use Rattle.model.proofs.Unchanged as OnSizes
-use Rattle.model.proofs.Unchanged.{count_not_zero}
+use Rattle.model.proofs.Refusals.{number_positive}
 use Rattle.model.proofs.Bursting.{BurstShows, burst_shows, none_asked, burst_state}
 use Rattle.order.specs.Encoding.{encode, view}
-use Rattle.order.specs.Promised.{answered_as, offered_as, departed_as, counted_as, OpenGives, OfferGives, DepartGives, BurstGives}
+use Rattle.order.specs.Promised.{departed_as, counted_as, OpenGives, OfferGives, DepartGives, BurstGives}
 use Rattle.order.specs.Runs.{Singles, Does}
 use Rattle.order.specs.State.{State}
-use Rattle.order.specs.declared.Answered.{Answered}
 use Rattle.order.specs.declared.Departed.{Departed}
-use Rattle.order.specs.declared.Placed.{Placed}
-use Rattle.order.specs.declared.Counted.{Counted}
+use Rattle.steps.specs.declared.Place.{Place}
 use Rattle.order.proofs.Follows as Order
 use Rattle.account.proofs.Theorems.{account, exact_bound, pair_bound}
 use Rattle.store.specs.Slots.{store_length, written}
@@ -37,12 +37,9 @@ use Rattle.store.specs.StoreCalls as OnBytes
 use Rattle.store.specs.Promised as Store
 use Rattle.store.specs.Runs as StoreCode
 use Rattle.store.specs.Site.{Site}
-use Rattle.store.specs.declared.SiteAnswered.{SiteAnswered}
-use Rattle.store.specs.declared.SiteDeparted.{SiteDeparted}
 use Rattle.store.proofs.Follows as Site
 use Rattle.store.proofs.Kept.{bytes_kept, every_history_kept}
 use Rattle.store.proofs.Unchanged as Kept
-use Rattle.store.proofs.Unchanged.{departure_not_zero}
 use Rattle.store.proofs.Balances.{accepted_is_stored}
 use Rattle.site_account.proofs.Slots.{store_slots_in_turn}
 use Rattle.site_account.proofs.Theorems.{store_account, store_exact_bound, store_pair_bound}
@@ -217,12 +214,12 @@ module _ {first : Scheduler} {calls : List Call} {h : CodeHistory order_layer} {
       (B.counts, B.at_most, B.writes)
 
   -- It gives back the state that as many single calls lead to.
-  pub burst_leads_as_single_calls : {n : ℕ} {before list : List ℕ} {r : Counted} {sent : List Sent} {t : State} → BurstGives h.state n before list r
+  pub burst_leads_as_single_calls : {n : ℕ} {before list : List ℕ} {r : Outcome State Count} {sent : List Sent} {t : State} → BurstGives h.state n before list r
       → Singles n h.state sent t → n ≤ length before → r.state ≡ t
   unfolding counted_as order_grounds
   burst_leads_as_single_calls {n} {before} {list} {r} g singles enough =
       let S = (beside order_layer order_grounds R).stands in
-      ap (λ (k : Counted). k.state) g.outcome
+      ap (λ (k : Outcome State Count). k.state) g.outcome
       ∙ ap (λ (k : Scheduler). encode (burst k n before).state) (Order.stands_for S)
       ∙ ap encode (burst_state (chain order_calls (begin first) calls).state n before enough)
       ∙ sym (Order.singles_lead singles (chain order_calls (begin first) calls).state S)
@@ -277,31 +274,29 @@ slots_in_turn {first} {calls} {h} {seen} {f} {n} {packet} {s} {e} R d accepted =
 -- ---- numbers
 
 -- No refusal has number 0: where the number that a definition gives is 0, nothing is refused.
-pub open_not_refused_with_0 : {c : State} {f weight : ℕ} {r : Answered} → OpenGives c f weight r → r.answer ≡ AnswerRefused 0 → ⊥
-unfolding answered_as
-open_not_refused_with_0 {c} {f} {weight} g e = OnSizes.open_not_zero (view c) f weight (sym (ap (λ (k : Answered). k.answer) g.outcome) ∙ e)
+pub open_not_refused_with_0 : {c : State} {f weight : ℕ} {r : Outcome State Answer} → OpenGives c f weight r → (k : Refusal) → r.reply ≡ Err k → 1 ≤ number_of k
+open_not_refused_with_0 g k e = number_positive k
 
-pub offer_not_refused_with_0 : {c : State} {f size : ℕ} {r : Placed} → OfferGives c f size r → r.answer ≡ AnswerRefused 0 → ⊥
-unfolding offered_as
-offer_not_refused_with_0 {c} {f} {size} g e = OnSizes.offer_not_zero (view c) f size (sym (ap (λ (k : Placed). k.answer) g.outcome) ∙ e)
+pub offer_not_refused_with_0 : {c : State} {f size : ℕ} {r : Outcome State (Result Place Refusal)} → OfferGives c f size r → (k : Refusal) → r.reply ≡ Err k
+    → 1 ≤ number_of k
+offer_not_refused_with_0 g k e = number_positive k
 
-pub departure_never_refused : {c : State} {r : Departed} {n : ℕ} → DepartGives c r → r.reply ≡ Refused n → ⊥
+pub departure_never_refused : {c : State} {r : Outcome State Departed} {k : Refusal} → DepartGives c r → r.reply.reply ≡ Refused k → ⊥
 unfolding departed_as
-departure_never_refused {c} {r} {n} g e = never_refused (view c) n (sym (ap (λ (k : Departed). k.reply) g.outcome) ∙ e)
+departure_never_refused {c} {r} {k} g e = never_refused (view c) k (sym (ap (λ (o : Outcome State Departed). o.reply.reply) g.outcome) ∙ e)
 
-pub burst_not_refused_with_0 : {c : State} {n : ℕ} {before list : List ℕ} {r : Counted} → BurstGives c n before list r → r.count ≡ CountRefused 0 → ⊥
-unfolding counted_as
-burst_not_refused_with_0 {c} {n} {before} g e = count_not_zero (view c) n before (sym (ap (λ (k : Counted). k.count) g.outcome) ∙ e)
+pub burst_not_refused_with_0 : {c : State} {n : ℕ} {before list : List ℕ} {r : Outcome State Count} → BurstGives c n before list r → (k : Refusal) → r.reply ≡ Err k
+    → 1 ≤ number_of k
+burst_not_refused_with_0 g k e = number_positive k
 
-pub store_open_not_refused_with_0 : {c : Site} {f weight : ℕ} {r : SiteAnswered} → Store.OpenGives c f weight r → r.answer ≡ AnswerRefused 0 → ⊥
-unfolding Store.answered_as
-store_open_not_refused_with_0 {c} {f} {weight} g e = OnSizes.open_not_zero (Store.scheduler_of c) f weight (sym (ap (λ (k : SiteAnswered). k.answer) g.outcome) ∙ e)
+pub store_open_not_refused_with_0 : {c : Site} {f weight : ℕ} {r : Outcome Site Answer} → Store.OpenGives c f weight r → (k : Refusal) → r.reply ≡ Err k
+    → 1 ≤ number_of k
+store_open_not_refused_with_0 g k e = number_positive k
 
-pub store_offer_not_refused_with_0 : {c : Site} {f : ℕ} {packet store after : List ℕ} {r : SiteAnswered} → Store.OfferGives c f packet store after r
-    → r.answer ≡ AnswerRefused 0 → ⊥
-unfolding Store.answered_as
-store_offer_not_refused_with_0 {c} {f} {packet} {store} g e = Kept.offer_not_zero (Store.scheduler_of c) f packet store (sym (ap (λ (k : SiteAnswered). k.answer) g.outcome) ∙ e)
+pub store_offer_not_refused_with_0 : {c : Site} {f : ℕ} {packet store after : List ℕ} {r : Outcome Site Answer} → Store.OfferGives c f packet store after r
+    → (k : Refusal) → r.reply ≡ Err k → 1 ≤ number_of k
+store_offer_not_refused_with_0 g k e = number_positive k
 
-pub store_departure_not_refused_with_0 : {c : Site} {store out after : List ℕ} {r : SiteDeparted} → Store.DepartGives c store out after r → r.reply ≡ Refused 0 → ⊥
-unfolding Store.departed_as
-store_departure_not_refused_with_0 {c} {store} {out} g e = departure_not_zero (Store.scheduler_of c) store out (sym (ap (λ (k : SiteDeparted). k.reply) g.outcome) ∙ e)
+pub store_departure_not_refused_with_0 : {c : Site} {store out after : List ℕ} {r : Outcome Site Reply} → Store.DepartGives c store out after r
+    → (k : Refusal) → r.reply ≡ Refused k → 1 ≤ number_of k
+store_departure_not_refused_with_0 g k e = number_positive k
