@@ -4,103 +4,67 @@
 ghost use Rattle.order.specs.Encoding.{Sound};
 
 use order::State;
-use test_runs::buffers::at_most;
-use test_runs::draws::{Call, Kind, next, start};
-use test_runs::sums;
-use test_runs::sums::{COUNTS, Folded};
+use test_runs::Layer;
+use test_runs::buffers::{lent_mut, rising};
+use test_runs::draws::{Call, Kind};
+use test_runs::tally::{Said, Tally};
 
-// What a call leaves: the state, and the checksum with its reply.
-#[derive(Clone, Copy)]
-struct Step {
+// The list that bursts write in.
+const LIST_ROOM: usize = 272;
+
+// A state, and the list, of which bursts are lent the first bytes.
+#[derive(Drop)]
+pub struct Sizes {
     state: State,
-    folded: Folded,
+    list: [u8; LIST_ROOM],
 }
 
-fn open(check: u32, state: State, flow: usize, weight: usize) -> Step
-    requires { Sound state }
-    ensures { Sound result.state }
-{
-    let asked = state.open(flow, weight);
-    let after = asked.state;
-    let answer = asked.answer;
-    Step {
-        state: after,
-        folded: sums::answered(check, answer, sums::OPENED),
+impl Sizes {
+    pub fn new() -> Sizes
+        ensures { Sound result.state }
+    {
+        Sizes {
+            state: State::new(),
+            list: rising(0, 5),
+        }
     }
 }
 
-fn offer(check: u32, state: State, flow: usize, size: usize) -> Step
-    requires { Sound state }
-    ensures { Sound result.state }
-{
-    let asked = state.offer(flow, size);
-    let after = asked.state;
-    let answer = asked.answer;
-    Step {
-        state: after,
-        folded: sums::answered(check, answer, sums::ACCEPTED),
-    }
-}
+impl Layer for Sizes {
+    ghost sound = { λ layer. Sound layer.state };
 
-fn depart(check: u32, state: State) -> Step
-    requires { Sound state }
-    ensures { Sound result.state }
-{
-    let left = state.depart();
-    let after = left.state;
-    let reply = left.reply;
-    Step {
-        state: after,
-        folded: sums::departed(check, reply),
+    fn make(&mut self, call: &Call, tally: &mut Tally) {
+        let state = self.state;
+        self.state = match call.kind {
+            Kind::Reset => {
+                tally.said(Said::Reset);
+                state.reset()
+            }
+            Kind::Open => {
+                let opened = state.open(call.flow, call.weight);
+                tally.answered(opened.answer, Said::Opened);
+                opened.state
+            }
+            Kind::Offer => {
+                let offered = state.offer(call.flow, call.size);
+                tally.answered(offered.answer, Said::Accepted);
+                offered.state
+            }
+            Kind::Depart => {
+                let left = state.depart();
+                tally.departed(left.reply);
+                left.state
+            }
+            Kind::Burst => {
+                let sent = state.burst(call.departures, lent_mut(&mut self.list, call.list));
+                tally.burst(sent.count);
+                tally.fold_all(&self.list);
+                sent.state
+            }
+        };
     }
-}
 
-fn burst(check: u32, state: State, n: usize, lent: usize, list: &mut [u8]) -> Step
-    requires { Sound state }
-    ensures { Sound result.state }
-{
-    let room = at_most(lent, list.len());
-    let sent = state.burst(n, &mut list[..room]);
-    let after = sent.state;
-    let count = sent.count;
-    Step {
-        state: after,
-        folded: sums::burst_into(check, count, list),
+    fn kept(&self) -> &[u8] {
+        &self.list
     }
-}
-
-fn made(check: u32, state: State, call: Call, list: &mut [u8]) -> Step
-    requires { Sound state }
-    ensures { Sound result.state }
-{
-    let kind = call.kind;
-    match kind {
-        Kind::Reset => Step {
-            state: state.reset(),
-            folded: sums::plain(check, sums::RESET),
-        },
-        Kind::Open => open(check, state, call.flow, call.weight),
-        Kind::Offer => offer(check, state, call.flow, call.size),
-        Kind::Depart => depart(check, state),
-        Kind::Burst => burst(check, state, call.departures, call.list, list),
-    }
-}
-
-// Makes the calls on a new state, and gives how often each reply was given. Bursts are lent the first bytes of the list.
-pub fn run<R: Print>(rt: &R, part: &[u8], seed: u32, calls: u64, list: &mut [u8]) -> [u64; COUNTS] {
-    let mut counts = [0u64; COUNTS];
-    let mut state = State::new();
-    let mut x = start(seed);
-    let mut check = sums::UNFOLDED;
-    let mut n: u64 = 0;
-    while n < calls {
-        let call = next(x, seed, n);
-        n += 1;
-        x = call.x;
-        let step = made(check, state, call, list);
-        state = step.state;
-        let folded = step.folded;
-        check = sums::counted(rt, &mut counts, folded, part, n, calls, list);
-    }
-    counts
 }
