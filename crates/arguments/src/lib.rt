@@ -12,7 +12,7 @@ pub fn count<R: Env>(rt: &R) -> usize {
 }
 
 // The number that an argument spells in decimal digits. One that is missing, has any other byte or is longer than the buffer spells none.
-pub fn number<R: Env>(rt: &R, i: usize, buffer: &mut [u8]) -> Option<u64> {
+pub fn number<R: Env>(rt: &R, i: usize, buffer: &mut [u8]) -> Option<usize> {
     let length = rt.arg(i, buffer).ok()?;
     let word = &buffer[..length];
     if !word.iter().all(u8::is_ascii_digit) {

@@ -1,32 +1,25 @@
 // The loop `again` of bench/plain/README.md: bursts of 100 from one full state.
 #![tactic(auto)]
 
+use bench_loops::sums::Check;
 use bench_loops::{SENT, sums, words};
 
-fn again(n: u64) -> u32 {
-    let full = bench_loops::filled(true);
+fn again(n: usize) -> Check {
+    let full = bench_loops::filled(bench_loops::size);
     let mut list = [0u8; SENT];
-    let mut check: u32 = 0;
-    let mut i: u64 = 0;
-    while i < n {
+    let mut check = Check::new(0);
+    for _ in 0..n {
         let sent = full.burst(SENT, &mut list);
-        let count = sent.count;
-        check = sums::fold_byte(sums::counted(check, count), list[SENT - 1]);
-        i += 1;
+        sums::counted(&mut check, sent.count);
+        check.fold(list[SENT - 1]);
     }
     check
 }
 
 fn main(rt: HostRuntime) {
-    let n = words::number(&rt, 1, words::RUN_LIMIT);
-    if words::arg_count(&rt) == 2 {
-        if 0 < n {
-            words::show(&rt, again(n));
-            return;
-        }
-    }
-    words::usage(
-        &rt.stderr(),
-        b"usage: bench_again N   N from 1 to 999999999999\n",
-    );
+    let Some(n) = words::turns(&rt) else {
+        let _ = eprintln!(rt; "usage: bench_again N   N from 1 to 999999999999");
+        return;
+    };
+    let _ = println!(rt; "{}", again(n).value());
 }

@@ -1,58 +1,32 @@
-// The program's arguments as numbers, and what it prints.
-ghost use Rattle.std.specs.Prelude.{◌≤◌};
+// The program's arguments as numbers.
+ghost use Rattle.std.specs.Prelude.{◌<◌, ◌≤◌, IfSome};
 
-use std::env::{Env, FillError};
+use std::env::Env;
 
-// The longest run that can be asked for. No number grows past it by more than one digit, so that none overflows.
-pub const RUN_LIMIT: u64 = 999999999999;
+// The longest run that can be asked for.
+const RUN_LIMIT: usize = 999999999999;
 
-// The decimal number that the bytes spell, or 0 where they spell none or one that is too large.
-fn spelled(word: &[u8]) -> u64 {
-    let mut value: u64 = 0;
-    let mut i = 0;
-    while i < word.len() {
-        let digit = word[i];
-        if digit < b'0' {
-            return 0;
-        }
-        if b'9' < digit {
-            return 0;
-        }
-        if RUN_LIMIT < value {
-            return 0;
-        }
-        value = value * 10 + (digit - b'0') as u64;
-        i += 1;
-    }
-    value
-}
-
-// Argument i, where it is a number from 1 to `most`; otherwise 0.
-pub fn number<R: Env>(rt: &R, i: usize, most: u64) -> u64
-    ensures { result ≤ most }
+// An argument that is a number from 1 to `most`.
+fn number<R: Env>(rt: &R, i: usize, most: usize) -> Option<usize>
+    ensures { IfSome result (λ n. (0 < n) × (n ≤ most)) }
 {
-    let mut buffer = [0u8; 20];
-    let value = match rt.arg(i, &mut buffer) {
-        Ok(length) => spelled(&buffer[..length]),
-        Err(_) => 0,
-    };
-    if value <= most { value } else { 0 }
+    arguments::number(rt, i, &mut [0; 20]).filter(|&n| 0 < n && n <= most)
 }
 
-// How many arguments the program was started with, its own name among them.
-pub fn arg_count<R: Env>(rt: &R) -> usize {
-    for i in 0..usize::MAX {
-        if let Err(FillError::NotPresent) = rt.arg(i, &mut []) {
-            return i;
-        }
+// The only argument: how many turns.
+pub fn turns<R: Env>(rt: &R) -> Option<usize> {
+    if arguments::count(rt) != 2 {
+        return None;
     }
-    usize::MAX
+    number(rt, 1, RUN_LIMIT)
 }
 
-pub fn usage<E: Print>(stderr: &E, text: &[u8]) {
-    let _ = stderr.write_all(text);
-}
-
-pub fn show<R: Print>(rt: &R, check: u32) {
-    let _ = rt.println(check);
+// The only two arguments: how many flows or bytes, from 1 to `most`, and how many turns.
+pub fn size_and_turns<R: Env>(rt: &R, most: usize) -> Option<(usize, usize)>
+    ensures { IfSome result (λ r. (0 < r.0) × (r.0 ≤ most)) }
+{
+    if arguments::count(rt) != 3 {
+        return None;
+    }
+    Some((number(rt, 1, most)?, number(rt, 2, RUN_LIMIT)?))
 }

@@ -1,12 +1,14 @@
 // The loop `store` of bench/plain/README.md: one packet into the store and one out of it.
 #![tactic(auto)]
 
-ghost use Rattle.std.specs.Prelude.{◌≡◌, ◌<◌, ◌≤◌, length};
+ghost use Rattle.std.specs.Prelude.{◌<◌, ◌≤◌};
 ghost use Rattle.model.specs.Limits.{size_limit};
 ghost use Rattle.store.specs.Promised.{SoundSite};
 
+use bench_loops::sums::Check;
 use bench_loops::{sums, words};
-use model::{Answer, Reply, SIZE_LIMIT};
+use model::{Reply, SIZE_LIMIT};
+use std::array;
 use store::{STORE_LENGTH, Site};
 
 const FLOWS: usize = 4;
@@ -15,103 +17,62 @@ fn opened() -> Site
     ensures { SoundSite result }
 {
     let mut site = Site::new();
-    let mut f = 0;
-    while f < FLOWS {
-        let asked = site.open(f, 1);
-        site = asked.site;
-        f += 1;
+    for f in 0..FLOWS {
+        site = site.open(f, 1).site;
     }
     site
 }
 
-// Byte j is (j × 7) mod 256.
-fn filled() -> [u8; SIZE_LIMIT]
-    ensures { size_limit ≡ length result }
-{
-    let mut packet = [0u8; SIZE_LIMIT];
-    let mut j = 0;
-    while j < SIZE_LIMIT {
-        packet[j] = (j * 7 % 256) as u8;
-        j += 1;
-    }
-    packet
-}
-
 // The departure, and the first and the last byte of its packet.
-fn replied(check: u32, reply: Reply, out: &[u8; SIZE_LIMIT]) -> u32 {
-    let folded = sums::replied(check, reply);
+fn replied(check: &mut Check, reply: Reply, out: &[u8; SIZE_LIMIT]) {
+    sums::replied(check, reply);
     if let Reply::Departure(d) = reply {
         // no contract is asked for the size, so that any reply has a byte here; sizes are 1 to 256
-        let last = std::num::wrapping_sub_u16(d.size, 1) % 256;
-        sums::fold_byte(sums::fold_byte(folded, out[0]), out[last as usize])
-    } else {
-        folded
+        let last = d.size.wrapping_sub(1) % 256;
+        check.fold(out[0]);
+        check.fold(out[last as usize]);
     }
-}
-
-// The site after an offer and a departure, with the answer and the reply.
-#[derive(Clone, Copy)]
-struct Paired {
-    site: Site,
-    answer: Answer,
-    reply: Reply,
 }
 
 // One packet in and one out. A function of its own, with no loop in it: so the compiler copies the site less often.
-fn pair(site: Site, f: usize, packet: &[u8], store: &mut [u8], out: &mut [u8]) -> Paired
-    requires { SoundSite site }
-    ensures { SoundSite result.site }
+fn pair(
+    site: &mut Site,
+    f: usize,
+    packet: &[u8],
+    store: &mut [u8],
+    out: &mut [u8; SIZE_LIMIT],
+    check: &mut Check,
+)
+    requires { SoundSite site.old }
+    ensures { SoundSite site.new }
 {
-    let asked = site.offer(f, packet, store);
-    let answer = asked.answer;
-    let offered = asked.site;
-    let left = offered.depart(store, out);
-    let after = left.site;
-    let reply = left.reply;
-    Paired {
-        site: after,
-        answer: answer,
-        reply: reply,
-    }
+    let offered = site.offer(f, packet, store);
+    sums::answered(check, offered.answer);
+    let left = offered.site.depart(store, out);
+    *site = left.site;
+    replied(check, left.reply, out);
 }
 
-fn pairs(size: usize, n: u64) -> u32
+fn pairs(size: usize, n: usize) -> Check
     requires { (0 < size) × (size ≤ size_limit) }
 {
     let mut site = opened();
-    let mut packet = filled();
+    let mut packet: [u8; SIZE_LIMIT] = array::from_fn(|j| (j % 256 * 7 % 256) as u8);
     let mut store = [0u8; STORE_LENGTH];
     let mut out = [0u8; SIZE_LIMIT];
-    let mut check: u32 = 0;
-    let mut i: u64 = 0;
-    while i < n {
-        let next = i + 1;
+    let mut check = Check::new(0);
+    for i in 0..n {
         packet[0] = (i % 256) as u8;
-        packet[size - 1] = (next % 256) as u8;
-        let f = (i % FLOWS as u64) as usize;
-        let made = pair(site, f, &packet[..size], &mut store, &mut out);
-        site = made.site;
-        let answer = made.answer;
-        let reply = made.reply;
-        check = replied(sums::answered(check, answer), reply, &out);
-        i = next;
+        packet[size - 1] = ((i + 1) % 256) as u8;
+        pair(&mut site, i % FLOWS, &packet[..size], &mut store, &mut out, &mut check);
     }
     check
 }
 
 fn main(rt: HostRuntime) {
-    let size = words::number(&rt, 1, SIZE_LIMIT as u64) as usize;
-    let n = words::number(&rt, 2, words::RUN_LIMIT);
-    if words::arg_count(&rt) == 3 {
-        if 0 < size {
-            if 0 < n {
-                words::show(&rt, pairs(size, n));
-                return;
-            }
-        }
-    }
-    words::usage(
-        &rt.stderr(),
-        b"usage: bench_store LEN N   LEN from 1 to 256, N from 1 to 999999999999\n",
-    );
+    let Some((size, n)) = words::size_and_turns(&rt, SIZE_LIMIT) else {
+        let _ = eprintln!(rt; "usage: bench_store LEN N   LEN from 1 to 256, N from 1 to 999999999999");
+        return;
+    };
+    let _ = println!(rt; "{}", pairs(size, n).value());
 }

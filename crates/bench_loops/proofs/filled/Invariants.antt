@@ -1,10 +1,6 @@
 -- Every offer is made on a sound state.
-use Rattle.std.proofs.Common.{◌-◌}
 use Rattle.order.specs.Encoding.{Sound}
 use Rattle.bench_loops.proofs.filled.Given as goal
 
 abbrev pub invariant-loop-k : goal.invariant-loop-k
-invariant-loop-k l = Sound l.s
-
-abbrev pub decreases-loop-k : goal.decreases-loop-k
-decreases-loop-k l = 256 - l.k
+invariant-loop-k g l = Sound l.state

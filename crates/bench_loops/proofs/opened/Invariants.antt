@@ -1,10 +1,6 @@
 -- Every open is made on a sound state.
-use Rattle.std.proofs.Common.{◌-◌}
 use Rattle.order.specs.Encoding.{Sound}
 use Rattle.bench_loops.proofs.opened.Given as goal
 
 abbrev pub invariant-loop-f : goal.invariant-loop-f
-invariant-loop-f l = Sound l.s
-
-abbrev pub decreases-loop-f : goal.decreases-loop-f
-decreases-loop-f l = l.flows - l.f
+invariant-loop-f l = Sound l.state

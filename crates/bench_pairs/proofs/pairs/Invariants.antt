@@ -1,10 +1,6 @@
 -- Every pair of calls starts from a sound state.
-use Rattle.std.proofs.Common.{◌-◌}
 use Rattle.order.specs.Encoding.{Sound}
 use Rattle.bench_pairs.proofs.pairs.Given as goal
 
 abbrev pub invariant-loop-i : goal.invariant-loop-i
-invariant-loop-i l = Sound l.s
-
-abbrev pub decreases-loop-i : goal.decreases-loop-i
-decreases-loop-i l = l.n - l.i
+invariant-loop-i l = Sound l.state
