@@ -1,9 +1,22 @@
 // The loop `departs` of bench/plain/README.md: 100 departures from one full state, one call each.
 #![tactic(auto)]
 
+ghost use Rattle.order.specs.Encoding.{Sound};
+
 use bench_loops::sums::Check;
 use bench_loops::{SENT, sums, words};
 use model::SIZE_LIMIT;
+use order::State;
+
+// One departure. A function of its own, with no loop in it, as bench_pairs' pair.
+fn depart(state: &mut State, check: &mut Check)
+    requires { Sound state.old }
+    ensures { Sound state.new }
+{
+    let left = state.depart();
+    *state = left.state;
+    sums::replied(check, left.reply);
+}
 
 fn departs(n: usize) -> Check {
     let full = bench_loops::filled(|_| SIZE_LIMIT);
@@ -11,9 +24,7 @@ fn departs(n: usize) -> Check {
     for _ in 0..n {
         let mut state = full;
         for _ in 0..SENT {
-            let left = state.depart();
-            state = left.state;
-            sums::replied(&mut check, left.reply);
+            depart(&mut state, &mut check);
         }
     }
     check

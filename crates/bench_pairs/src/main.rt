@@ -30,8 +30,8 @@ fn pair(state: &mut State, f: usize, size: usize, check: &mut Check)
     let offered = state.offer(f, size);
     sums::answered(check, offered.answer);
     let left = offered.state.depart();
-    sums::replied(check, left.reply);
     *state = left.state;
+    sums::replied(check, left.reply);
 }
 
 fn pairs(flows: usize, n: usize) -> Check
@@ -47,7 +47,9 @@ fn pairs(flows: usize, n: usize) -> Check
 
 fn main(rt: HostRuntime) {
     let Some((flows, n)) = words::size_and_turns(&rt, FLOW_LIMIT) else {
-        let _ = eprintln!(rt; "usage: bench_pairs FLOWS N   FLOWS from 1 to 32, N from 1 to 999999999999");
+        let _ = eprintln!(rt;
+            "usage: bench_pairs FLOWS N   FLOWS from 1 to 32, N from 1 to 999999999999"
+        );
         return;
     };
     let _ = println!(rt; "{}", pairs(flows, n).value());

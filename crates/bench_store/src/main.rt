@@ -64,14 +64,23 @@ fn pairs(size: usize, n: usize) -> Check
     for i in 0..n {
         packet[0] = (i % 256) as u8;
         packet[size - 1] = ((i + 1) % 256) as u8;
-        pair(&mut site, i % FLOWS, &packet[..size], &mut store, &mut out, &mut check);
+        pair(
+            &mut site,
+            i % FLOWS,
+            &packet[..size],
+            &mut store,
+            &mut out,
+            &mut check,
+        );
     }
     check
 }
 
 fn main(rt: HostRuntime) {
     let Some((size, n)) = words::size_and_turns(&rt, SIZE_LIMIT) else {
-        let _ = eprintln!(rt; "usage: bench_store LEN N   LEN from 1 to 256, N from 1 to 999999999999");
+        let _ = eprintln!(rt;
+            "usage: bench_store LEN N   LEN from 1 to 256, N from 1 to 999999999999"
+        );
         return;
     };
     let _ = println!(rt; "{}", pairs(size, n).value());

@@ -31,6 +31,16 @@ fn filled(store: &mut [u8]) -> Site
     site
 }
 
+// One departure. A function of its own, with no loop in it, as bench_pairs' pair.
+fn depart(site: &mut Site, store: &[u8], out: &mut [u8], check: &mut Check)
+    requires { SoundSite site.old }
+    ensures { SoundSite site.new }
+{
+    let left = site.depart(store, out);
+    *site = left.site;
+    sums::replied(check, left.reply);
+}
+
 fn departs(n: usize) -> Check {
     let mut store = [0u8; STORE_LENGTH];
     let full = filled(&mut store);
@@ -39,9 +49,7 @@ fn departs(n: usize) -> Check {
     for _ in 0..n {
         let mut site = full;
         for _ in 0..SENT {
-            let left = site.depart(&store, &mut out);
-            site = left.site;
-            sums::replied(&mut check, left.reply);
+            depart(&mut site, &store, &mut out, &mut check);
         }
         check.fold(out[0]);
         check.fold(out[SIZE_LIMIT - 1]);
