@@ -37,7 +37,7 @@ struct Made {
 
 fn main(rt: HostRuntime) {
     // the first argument is the program's own name
-    let names = argument_count(&rt).saturating_sub(1);
+    let names = arguments::count(&rt).saturating_sub(1);
     if names == 0 {
         let _ = print!(rt; "sheet: no files named");
         return usage(&rt);
@@ -52,17 +52,6 @@ fn main(rt: HostRuntime) {
         return usage(&rt);
     }
     sheet(&rt, sites);
-}
-
-// How many arguments the program was started with: the runtime tells only of each whether it is there.
-fn argument_count<R: Env>(rt: &R) -> usize {
-    let mut start = [0u8; 1];
-    for i in 0..usize::MAX {
-        if let Err(FillError::NotPresent) = rt.arg(i, &mut start) {
-            return i;
-        }
-    }
-    usize::MAX
 }
 
 // The end of a line that refuses.
