@@ -10,7 +10,7 @@ fn again(n: usize) -> Check {
     let mut check = Check::new(0);
     for _ in 0..n {
         let sent = full.burst(SENT, &mut list);
-        sums::counted(&mut check, sent.count);
+        sums::counted(&mut check, sent.reply);
         check.fold(list[SENT - 1]);
     }
     check

@@ -15,7 +15,7 @@ fn depart(state: &mut State, check: &mut Check)
 {
     let left = state.depart();
     *state = left.state;
-    sums::replied(check, left.reply);
+    sums::replied(check, left.reply.reply);
 }
 
 fn departs(n: usize) -> Check {

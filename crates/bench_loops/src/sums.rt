@@ -1,17 +1,21 @@
 // The checksum of what the calls reply.
 use checksums::Checksum;
-use model::{Answer, Count, Reply, Sent};
+use model::{Refusal, Reply, Sent};
 
 pub type Check = Checksum<31, 1000003>;
 
 // What a departure call that finds nothing folds.
 const IDLE: u16 = 7777;
 
+fn refused(check: &mut Check, refusal: Refusal) {
+    check.fold(u8::from(refusal));
+}
+
 // An answer of open or offer: the refusal's number, or 0.
-pub fn answered(check: &mut Check, answer: Answer) {
+pub fn answered<T: Drop>(check: &mut Check, answer: Result<T, Refusal>) {
     match answer {
-        Answer::Done => check.fold(0u8),
-        Answer::Refused(k) => check.fold(k),
+        Ok(_) => check.fold(0u8),
+        Err(refusal) => refused(check, refusal),
     }
 }
 
@@ -26,14 +30,14 @@ pub fn replied(check: &mut Check, reply: Reply) {
     match reply {
         Reply::Departure(d) => sent(check, d),
         Reply::Idle => check.fold(IDLE),
-        Reply::Refused(k) => check.fold(k),
+        Reply::Refused(refusal) => refused(check, refusal),
     }
 }
 
 // How many departures a burst made.
-pub fn counted(check: &mut Check, count: Count) {
+pub fn counted(check: &mut Check, count: Result<usize, Refusal>) {
     match count {
-        Count::Made(n) => check.fold((n % 65536) as u16),
-        Count::Refused(k) => check.fold(k),
+        Ok(n) => check.fold((n % 65536) as u16),
+        Err(refusal) => refused(check, refusal),
     }
 }

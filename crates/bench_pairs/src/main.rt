@@ -28,10 +28,10 @@ fn pair(state: &mut State, f: usize, size: usize, check: &mut Check)
     ensures { Sound state.new }
 {
     let offered = state.offer(f, size);
-    sums::answered(check, offered.answer);
+    sums::answered(check, offered.reply);
     let left = offered.state.depart();
     *state = left.state;
-    sums::replied(check, left.reply);
+    sums::replied(check, left.reply.reply);
 }
 
 fn pairs(flows: usize, n: usize) -> Check

@@ -42,22 +42,22 @@ impl Layer for Sizes {
             }
             Kind::Open => {
                 let opened = state.open(call.flow, call.weight);
-                tally.answered(opened.answer, Said::Opened);
+                tally.answered(opened.reply, Said::Opened);
                 opened.state
             }
             Kind::Offer => {
                 let offered = state.offer(call.flow, call.size);
-                tally.answered(offered.answer, Said::Accepted);
+                tally.answered(offered.reply, Said::Accepted);
                 offered.state
             }
             Kind::Depart => {
                 let left = state.depart();
-                tally.departed(left.reply);
+                tally.departed(left.reply.reply);
                 left.state
             }
             Kind::Burst => {
                 let sent = state.burst(call.departures, lent_mut(&mut self.list, call.list));
-                tally.burst(sent.count);
+                tally.burst(sent.reply);
                 tally.fold_all(&self.list);
                 sent.state
             }

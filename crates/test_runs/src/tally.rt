@@ -1,6 +1,6 @@
 // The checksum of what calls reply, and how often each reply was given.
 use checksums::Checksum;
-use model::{Answer, Count, Reply, Sent};
+use model::{Refusal, Reply, Sent};
 
 // The numbers of replies: a refusal has document 01's, 1 to 9.
 #[derive(Clone, Copy, PartialEq, Eq, Debug)]
@@ -55,11 +55,11 @@ impl Tally {
         self.take_in(said as u8);
     }
 
-    // An answer of open or offer, with what is said where the call was not refused.
-    pub fn answered(&mut self, answer: Answer, done: Said) {
+    // An answer, with what is said where the call was not refused.
+    pub fn answered<T: Drop>(&mut self, answer: Result<T, Refusal>, done: Said) {
         match answer {
-            Answer::Done => self.said(done),
-            Answer::Refused(k) => self.take_in(k),
+            Ok(_) => self.said(done),
+            Err(refusal) => self.take_in(refusal.into()),
         }
     }
 
@@ -77,14 +77,11 @@ impl Tally {
         self.sum.fold_all(&d.allowance.to_le_bytes());
     }
 
-    pub fn burst(&mut self, count: Count) {
-        match count {
-            Count::Made(n) => {
-                self.said(Said::Burst);
-                self.sum.fold((n % 256) as u8);
-                self.sum.fold((n / 256 % 256) as u8);
-            }
-            Count::Refused(k) => self.take_in(k),
+    pub fn burst(&mut self, count: Result<usize, Refusal>) {
+        self.answered(count, Said::Burst);
+        if let Ok(n) = count {
+            self.sum.fold((n % 256) as u8);
+            self.sum.fold((n / 256 % 256) as u8);
         }
     }
 }
@@ -94,6 +91,6 @@ pub fn number_of(reply: Reply) -> u8 {
     match reply {
         Reply::Departure(_) => Said::Departed as u8,
         Reply::Idle => Said::Idle as u8,
-        Reply::Refused(k) => k,
+        Reply::Refused(refusal) => refusal.into(),
     }
 }
