@@ -18,7 +18,7 @@ fn opened() -> Site
 {
     let mut site = Site::new();
     for f in 0..FLOWS {
-        site = site.open(f, 1).site;
+        site = site.open(f, 1).state;
     }
     site
 }
@@ -47,9 +47,9 @@ fn pair(
     ensures { SoundSite site.new }
 {
     let offered = site.offer(f, packet, store);
-    sums::answered(check, offered.answer);
-    let left = offered.site.depart(store, out);
-    *site = left.site;
+    sums::answered(check, offered.reply);
+    let left = offered.state.depart(store, out);
+    *site = left.state;
     replied(check, left.reply, out);
 }
 

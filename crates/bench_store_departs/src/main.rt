@@ -14,7 +14,7 @@ fn opened() -> Site
 {
     let mut site = Site::new();
     for f in 0..FLOW_LIMIT {
-        site = site.open(f, 1 + f % 4).site;
+        site = site.open(f, 1 + f % 4).state;
     }
     site
 }
@@ -26,7 +26,7 @@ fn filled(store: &mut [u8]) -> Site
     let mut site = opened();
     for k in 0..FULL {
         let packet = [(k % 256) as u8; SIZE_LIMIT];
-        site = site.offer(k / QUEUE_LIMIT as usize, &packet, store).site;
+        site = site.offer(k / QUEUE_LIMIT as usize, &packet, store).state;
     }
     site
 }
@@ -37,7 +37,7 @@ fn depart(site: &mut Site, store: &[u8], out: &mut [u8], check: &mut Check)
     ensures { SoundSite site.new }
 {
     let left = site.depart(store, out);
-    *site = left.site;
+    *site = left.state;
     sums::replied(check, left.reply);
 }
 

@@ -50,8 +50,8 @@ impl Layer for Bytes {
             }
             Kind::Open => {
                 let opened = site.open(call.flow, call.weight);
-                tally.answered(opened.answer, Said::Opened);
-                opened.site
+                tally.answered(opened.reply, Said::Opened);
+                opened.state
             }
             Kind::Offer => {
                 let packet = rising::<PACKET_ROOM>(call.first, call.step);
@@ -60,8 +60,8 @@ impl Layer for Bytes {
                     lent(&packet, call.length),
                     lent_mut(&mut self.store, call.store),
                 );
-                tally.answered(offered.answer, Said::Accepted);
-                offered.site
+                tally.answered(offered.reply, Said::Accepted);
+                offered.state
             }
             Kind::Depart | Kind::Burst => {
                 let left = site.depart(
@@ -70,7 +70,7 @@ impl Layer for Bytes {
                 );
                 tally.departed(left.reply);
                 tally.fold_all(&self.out);
-                left.site
+                left.state
             }
         };
     }
