@@ -6,7 +6,7 @@ ghost use Rattle.order.specs.Encoding.{Sound};
 
 use bench_loops::sums::Check;
 use bench_loops::{sums, words};
-use model::FLOW_LIMIT;
+use model::{FLOW_LIMIT, Outcome};
 use order::State;
 
 // The flows open, with two packets waiting in each.
@@ -27,11 +27,11 @@ fn pair(state: &mut State, f: usize, size: usize, check: &mut Check)
     requires { Sound state.old }
     ensures { Sound state.new }
 {
-    let offered = state.offer(f, size);
-    sums::answered(check, offered.reply);
-    let left = offered.state.depart();
-    *state = left.state;
-    sums::replied(check, left.reply.reply);
+    let Outcome { state: offered, reply: answer } = state.offer(f, size);
+    let Outcome { state: after, reply: left } = offered.depart();
+    sums::answered(check, answer);
+    sums::replied(check, left.reply);
+    *state = after;
 }
 
 fn pairs(flows: usize, n: usize) -> Check

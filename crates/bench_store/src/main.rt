@@ -7,7 +7,7 @@ ghost use Rattle.store.specs.Promised.{SoundSite};
 
 use bench_loops::sums::Check;
 use bench_loops::{sums, words};
-use model::{Reply, SIZE_LIMIT};
+use model::{Outcome, Reply, SIZE_LIMIT};
 use std::array;
 use store::{STORE_LENGTH, Site};
 
@@ -46,11 +46,11 @@ fn pair(
     requires { SoundSite site.old }
     ensures { SoundSite site.new }
 {
-    let offered = site.offer(f, packet, store);
-    sums::answered(check, offered.reply);
-    let left = offered.state.depart(store, out);
-    *site = left.state;
-    replied(check, left.reply, out);
+    let Outcome { state: offered, reply: answer } = site.offer(f, packet, store);
+    let Outcome { state: after, reply } = offered.depart(store, out);
+    sums::answered(check, answer);
+    replied(check, reply, out);
+    *site = after;
 }
 
 fn pairs(size: usize, n: usize) -> Check
