@@ -1,18 +1,13 @@
 // The loop `departs` of bench/plain/README.md: 100 departures from one full state, one call each.
 #![tactic(auto)]
 
-ghost use Rattle.order.specs.Encoding.{Sound};
-
 use bench_loops::sums::Check;
 use bench_loops::{SENT, sums, words};
 use model::SIZE_LIMIT;
 use order::State;
 
 // One departure. A function of its own, with no loop in it, as bench_pairs' pair.
-fn depart(state: &mut State, check: &mut Check)
-    requires { Sound state.old }
-    ensures { Sound state.new }
-{
+fn depart(state: &mut State, check: &mut Check) {
     let left = state.depart();
     *state = left.state;
     sums::replied(check, left.reply.reply);

@@ -1,8 +1,6 @@
 // What the bench's loops share: the checksum, the sizes offered, the opened flows, the full state, and the program's arguments. bench/plain/README.md defines the loops.
 #![tactic(auto)]
 
-ghost use Rattle.order.specs.Encoding.{Sound};
-
 use model::{FLOW_LIMIT, QUEUE_LIMIT};
 use order::State;
 
@@ -21,9 +19,7 @@ pub fn size(k: usize) -> usize {
 }
 
 // A new state with the first flows open, by weights of 1 to 4.
-pub fn opened(flows: usize) -> State
-    ensures { Sound result }
-{
+pub fn opened(flows: usize) -> State {
     let mut state = State::new();
     for f in 0..flows {
         state = state.open(f, 1 + f % 4).state;
@@ -34,7 +30,6 @@ pub fn opened(flows: usize) -> State
 // Every flow open, with eight packets waiting in each, of these sizes.
 pub fn filled<F: Fn(usize) -> usize>(size: F) -> State
     requires { F.IsAlwaysCallable size }
-    ensures { Sound result }
 {
     let mut state = opened(FLOW_LIMIT);
     for k in 0..FULL {

@@ -2,17 +2,14 @@
 #![tactic(auto)]
 
 ghost use Rattle.std.specs.Prelude.{◌<◌};
-ghost use Rattle.order.specs.Encoding.{Sound};
 
 use bench_loops::sums::Check;
 use bench_loops::{sums, words};
-use model::{FLOW_LIMIT, Outcome};
+use model::FLOW_LIMIT;
 use order::State;
 
 // The flows open, with two packets waiting in each.
-fn begun(flows: usize) -> State
-    ensures { Sound result }
-{
+fn begun(flows: usize) -> State {
     let mut state = bench_loops::opened(flows);
     for f in 0..flows {
         for _ in 0..2 {
@@ -23,15 +20,12 @@ fn begun(flows: usize) -> State
 }
 
 // One offer and one departure. A function of its own, with no loop in it: so the compiler makes both calls on one copy of the state.
-fn pair(state: &mut State, f: usize, size: usize, check: &mut Check)
-    requires { Sound state.old }
-    ensures { Sound state.new }
-{
-    let Outcome { state: offered, reply: answer } = state.offer(f, size);
-    let Outcome { state: after, reply: left } = offered.depart();
-    sums::answered(check, answer);
-    sums::replied(check, left.reply);
-    *state = after;
+fn pair(state: &mut State, f: usize, size: usize, check: &mut Check) {
+    let offered = state.offer(f, size);
+    let left = offered.state.depart();
+    sums::answered(check, offered.reply);
+    sums::replied(check, left.reply.reply);
+    *state = left.state;
 }
 
 fn pairs(flows: usize, n: usize) -> Check

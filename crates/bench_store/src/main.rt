@@ -3,19 +3,16 @@
 
 ghost use Rattle.std.specs.Prelude.{◌<◌, ◌≤◌};
 ghost use Rattle.model.specs.Limits.{size_limit};
-ghost use Rattle.store.specs.Promised.{SoundSite};
 
 use bench_loops::sums::Check;
 use bench_loops::{sums, words};
-use model::{Outcome, Reply, SIZE_LIMIT};
+use model::{Reply, SIZE_LIMIT};
 use std::array;
 use store::{STORE_LENGTH, Site};
 
 const FLOWS: usize = 4;
 
-fn opened() -> Site
-    ensures { SoundSite result }
-{
+fn opened() -> Site {
     let mut site = Site::new();
     for f in 0..FLOWS {
         site = site.open(f, 1).state;
@@ -42,15 +39,12 @@ fn pair(
     store: &mut [u8],
     out: &mut [u8; SIZE_LIMIT],
     check: &mut Check,
-)
-    requires { SoundSite site.old }
-    ensures { SoundSite site.new }
-{
-    let Outcome { state: offered, reply: answer } = site.offer(f, packet, store);
-    let Outcome { state: after, reply } = offered.depart(store, out);
-    sums::answered(check, answer);
-    replied(check, reply, out);
-    *site = after;
+) {
+    let offered = site.offer(f, packet, store);
+    let left = offered.state.depart(store, out);
+    sums::answered(check, offered.reply);
+    replied(check, left.reply, out);
+    *site = left.state;
 }
 
 fn pairs(size: usize, n: usize) -> Check

@@ -1,17 +1,13 @@
 // The loop `store_departs` of bench/plain/README.md: 100 store departures from one full site, one call each.
 #![tactic(auto)]
 
-ghost use Rattle.store.specs.Promised.{SoundSite};
-
 use bench_loops::sums::Check;
 use bench_loops::{FULL, SENT, sums, words};
 use model::{FLOW_LIMIT, QUEUE_LIMIT, SIZE_LIMIT};
 use store::{STORE_LENGTH, Site};
 
 // Every flow open, by weights of 1 to 4.
-fn opened() -> Site
-    ensures { SoundSite result }
-{
+fn opened() -> Site {
     let mut site = Site::new();
     for f in 0..FLOW_LIMIT {
         site = site.open(f, 1 + f % 4).state;
@@ -20,9 +16,7 @@ fn opened() -> Site
 }
 
 // Eight packets of 256 bytes in each flow, and so the whole store: the bytes of packet k are all k.
-fn filled(store: &mut [u8]) -> Site
-    ensures { SoundSite result }
-{
+fn filled(store: &mut [u8]) -> Site {
     let mut site = opened();
     for k in 0..FULL {
         let packet = [(k % 256) as u8; SIZE_LIMIT];
@@ -32,10 +26,7 @@ fn filled(store: &mut [u8]) -> Site
 }
 
 // One departure. A function of its own, with no loop in it, as bench_pairs' pair.
-fn depart(site: &mut Site, store: &[u8], out: &mut [u8], check: &mut Check)
-    requires { SoundSite site.old }
-    ensures { SoundSite site.new }
-{
+fn depart(site: &mut Site, store: &[u8], out: &mut [u8], check: &mut Check) {
     let left = site.depart(store, out);
     *site = left.state;
     sums::replied(check, left.reply);

@@ -1,8 +1,6 @@
 // Random calls of the order layer: the part `order` of reference/CALLS.md.
 #![tactic(auto)]
 
-ghost use Rattle.order.specs.Encoding.{Sound};
-
 use order::State;
 use test_runs::Layer;
 use test_runs::buffers::{lent_mut, rising};
@@ -20,9 +18,7 @@ pub struct Sizes {
 }
 
 impl Sizes {
-    pub fn new() -> Sizes
-        ensures { Sound result.state }
-    {
+    pub fn new() -> Sizes {
         Sizes {
             state: State::new(),
             list: rising(0, 5),
@@ -31,8 +27,6 @@ impl Sizes {
 }
 
 impl Layer for Sizes {
-    ghost sound = { λ layer. Sound layer.state };
-
     fn make(&mut self, call: &Call, tally: &mut Tally) {
         let state = self.state;
         self.state = match call.kind {

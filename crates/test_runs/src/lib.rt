@@ -13,13 +13,8 @@ const CALLS_TO_A_LINE: u32 = 1000;
 
 // A scheduler of one layer, with the buffers that its calls are lent.
 pub trait Layer {
-    // What the layer's calls ask of their scheduler, and give back.
-    ghost sound: { Self → Type 0 };
-
     // Makes a call, and takes in what it replies.
-    fn make(&mut self, call: &Call, tally: &mut Tally)
-        requires { sound self.old }
-        ensures { sound self.new };
+    fn make(&mut self, call: &Call, tally: &mut Tally);
 
     // The buffer that is folded before each line.
     fn kept(&self) -> &[u8];
@@ -27,9 +22,7 @@ pub trait Layer {
 
 // Makes the calls on a layer. After every 1,000 and after the last a line is printed, and then how often each reply was given. A write that fails is
 // passed over.
-pub fn run<R: Print, L: Layer>(rt: &R, part: &str, seed: u32, calls: u32, layer: &mut L)
-    requires { L.sound layer.old }
-{
+pub fn run<R: Print, L: Layer>(rt: &R, part: &str, seed: u32, calls: u32, layer: &mut L) {
     let mut draws = Draws::new(seed);
     let mut tally = Tally::new();
     for before in 0..calls {

@@ -1,8 +1,6 @@
 // Random calls of the store layer: the part `store` of reference/CALLS.md.
 #![tactic(auto)]
 
-ghost use Rattle.store.specs.Promised.{SoundSite};
-
 use store::{STORE_LENGTH, Site};
 use test_runs::Layer;
 use test_runs::buffers::{lent, lent_mut, rising, staggered};
@@ -27,9 +25,7 @@ pub struct Bytes {
 }
 
 impl Bytes {
-    pub fn new() -> Bytes
-        ensures { SoundSite result.site }
-    {
+    pub fn new() -> Bytes {
         Bytes {
             site: Site::new(),
             store: staggered(),
@@ -39,8 +35,6 @@ impl Bytes {
 }
 
 impl Layer for Bytes {
-    ghost sound = { λ layer. SoundSite layer.site };
-
     fn make(&mut self, call: &Call, tally: &mut Tally) {
         let site = self.site;
         self.site = match call.kind {
