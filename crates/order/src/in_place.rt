@@ -31,6 +31,8 @@ pub fn offer(cells: &mut [u8], r: &mut RoundCell, f: usize, size: usize) -> Resu
     Ok(place)
 }
 
+// A burst has it inlined too, so that the round stays in registers from departure to departure.
+#[inline(always)]
 pub fn depart(cells: &mut [u8], r: &mut RoundCell) -> Departed
     requires { Sound (state_with cells.old r.old) }
     ensures { DepartGives (state_with cells.old r.old) (left_by cells.new r.new result) }
