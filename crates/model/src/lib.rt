@@ -36,7 +36,7 @@ impl From<Refusal> for u8 {
     }
 }
 
-// Either no turn is open, or one is, with its flow, allowance and bytes sent so far.
+// Either no turn is open, or one is, with its flow, allowance and bytes sent so far. Document 01 asks for this enum, and so it is no Option.
 #[derive(Clone, Copy)]
 pub enum Serving {
     NoTurn,
@@ -52,7 +52,7 @@ pub struct Sent {
     pub allowance: u16,
 }
 
-// What a departure call replies with.
+// What a departure call replies with. Document 01 asks for this enum, and so it is no Result.
 #[derive(Clone, Copy)]
 pub enum Reply {
     Departure(Sent),

@@ -4,7 +4,6 @@
 
 ghost use Rattle.std.specs.Prelude.{◌*◌, ◌<◌, ◌≤◌, ◌≡◌, length, IfSome};
 ghost use Rattle.intake.specs.Intake.{LieAtStart};
-ghost use Rattle.play.specs.Transcript.{input_limit, output_limit};
 ghost use Rattle.week.specs.Reading.{Sound};
 ghost use Rattle.week.specs.Week.{site_limit};
 ghost use Rattle.sheet_text.specs.Sheet.{remark_limit};
@@ -27,6 +26,11 @@ const SUMS: usize = 4_096;
 
 // Room for a remark on every site: a name of 4,096 bytes, and what is said of it.
 const REMARKS: usize = SITE_LIMIT * 4_352;
+
+// Room for a site's files: one byte more than what counts, to find a file that is longer.
+type Events = [u8; INPUT_LIMIT + 1];
+
+type Output = [u8; OUTPUT_LIMIT + 1];
 
 // The sums over all sites, and the place up to which the remarks are put.
 #[derive(Clone, Copy)]
@@ -64,9 +68,8 @@ fn sheet<R: Env + Files + Print>(rt: &R, sites: usize)
     requires { sites ≤ site_limit }
 {
     let mut remarks = [0u8; REMARKS];
-    // one byte longer than what counts, to find a file that is longer
-    let mut events = [0u8; INPUT_LIMIT + 1];
-    let mut output = [0u8; OUTPUT_LIMIT + 1];
+    let mut events: Events = [0; INPUT_LIMIT + 1];
+    let mut output: Output = [0; OUTPUT_LIMIT + 1];
     let made = judged_all(rt, sites, &mut remarks, &mut events, &mut output);
     let week = made.week;
     let past = made.past;
@@ -91,13 +94,11 @@ fn judged_all<R: Env + Files>(
     rt: &R,
     sites: usize,
     remarks: &mut [u8],
-    events: &mut [u8],
-    output: &mut [u8],
+    events: &mut Events,
+    output: &mut Output,
 ) -> Made
     requires sites_le_site_limit { sites ≤ site_limit }
     requires remark_limit_in_bounds { site_limit * remark_limit ≤ length remarks.old }
-    requires input_limit_in_bounds { input_limit < length events.old }
-    requires output_limit_in_bounds { output_limit < length output.old }
     ensures { MakesASheet sites remarks.old remarks.new result }
 {
     let mut page = Page::new(remarks);
@@ -118,14 +119,12 @@ fn judge<R: Env + Files>(
     rt: &R,
     week: Week,
     before: usize,
-    events: &mut [u8],
-    output: &mut [u8],
+    events: &mut Events,
+    output: &mut Output,
 ) -> (Week, Verdict)
     requires sound { Sound week }
     requires sites_value { week.sites ≡ before }
     requires before_lt_site_limit { before < site_limit }
-    requires input_limit_in_bounds { input_limit < length events.old }
-    requires output_limit_in_bounds { output_limit < length output.old }
     ensures { JudgesASite week result }
 {
     let Some(lines) = contents(rt, 2 * before + 1, events) else {
