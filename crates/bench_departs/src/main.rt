@@ -4,14 +4,6 @@
 use bench_loops::sums::Check;
 use bench_loops::{SENT, sums, words};
 use model::SIZE_LIMIT;
-use order::State;
-
-// One departure. A function of its own, with no loop in it, as bench_pairs' pair.
-fn depart(state: &mut State, check: &mut Check) {
-    let left = state.depart();
-    *state = left.state;
-    sums::replied(check, left.reply.reply);
-}
 
 fn departs(n: usize) -> Check {
     let full = bench_loops::filled(|_| SIZE_LIMIT);
@@ -19,7 +11,8 @@ fn departs(n: usize) -> Check {
     for _ in 0..n {
         let mut state = full;
         for _ in 0..SENT {
-            depart(&mut state, &mut check);
+            let reply = bench_loops::depart(&mut state);
+            sums::replied(&mut check, reply);
         }
     }
     check

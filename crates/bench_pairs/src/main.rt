@@ -19,13 +19,14 @@ fn begun(flows: usize) -> State {
     state
 }
 
-// One offer and one departure. A function of its own, with no loop in it: so the compiler makes both calls on one copy of the state.
+// One offer and one departure. A function of its own, with no loop in it, and what was said is folded after both: so the compiler copies the state less
+// often.
 fn pair(state: &mut State, f: usize, size: usize, check: &mut Check) {
     let offered = state.offer(f, size);
-    let left = offered.state.depart();
+    *state = offered.state;
+    let reply = bench_loops::depart(state);
     sums::answered(check, offered.reply);
-    sums::replied(check, left.reply.reply);
-    *state = left.state;
+    sums::replied(check, reply);
 }
 
 fn pairs(flows: usize, n: usize) -> Check

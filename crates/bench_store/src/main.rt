@@ -31,20 +31,17 @@ fn replied(check: &mut Check, reply: Reply, out: &[u8; SIZE_LIMIT]) {
     }
 }
 
-// One packet in and one out. A function of its own, with no loop in it: so the compiler copies the site less often.
-fn pair(
-    site: &mut Site,
-    f: usize,
-    packet: &[u8],
-    store: &mut [u8],
-    out: &mut [u8; SIZE_LIMIT],
-    check: &mut Check,
-) {
+// One packet in, and one out. Each is a function of its own, with no loop in it: so the compiler copies the site less often.
+fn offer(site: &mut Site, f: usize, packet: &[u8], store: &mut [u8], check: &mut Check) {
     let offered = site.offer(f, packet, store);
-    let left = offered.state.depart(store, out);
+    *site = offered.state;
     sums::answered(check, offered.reply);
-    replied(check, left.reply, out);
+}
+
+fn depart(site: &mut Site, store: &[u8], out: &mut [u8; SIZE_LIMIT], check: &mut Check) {
+    let left = site.depart(store, out);
     *site = left.state;
+    replied(check, left.reply, out);
 }
 
 fn pairs(size: usize, n: usize) -> Check
@@ -58,14 +55,14 @@ fn pairs(size: usize, n: usize) -> Check
     for i in 0..n {
         packet[0] = (i % 256) as u8;
         packet[size - 1] = ((i + 1) % 256) as u8;
-        pair(
+        offer(
             &mut site,
             i % FLOWS,
             &packet[..size],
             &mut store,
-            &mut out,
             &mut check,
         );
+        depart(&mut site, &store, &mut out, &mut check);
     }
     check
 }

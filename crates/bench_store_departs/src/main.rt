@@ -3,7 +3,7 @@
 
 use bench_loops::sums::Check;
 use bench_loops::{FULL, SENT, sums, words};
-use model::{FLOW_LIMIT, QUEUE_LIMIT, SIZE_LIMIT};
+use model::{FLOW_LIMIT, QUEUE_LIMIT, Reply, SIZE_LIMIT};
 use store::{STORE_LENGTH, Site};
 
 // Every flow open, by weights of 1 to 4.
@@ -25,11 +25,11 @@ fn filled(store: &mut [u8]) -> Site {
     site
 }
 
-// One departure. A function of its own, with no loop in it, as bench_pairs' pair.
-fn depart(site: &mut Site, store: &[u8], out: &mut [u8], check: &mut Check) {
+// One departure. A function of its own, with no loop in it, as in bench_loops.
+fn depart(site: &mut Site, store: &[u8], out: &mut [u8]) -> Reply {
     let left = site.depart(store, out);
     *site = left.state;
-    sums::replied(check, left.reply);
+    left.reply
 }
 
 fn departs(n: usize) -> Check {
@@ -40,7 +40,8 @@ fn departs(n: usize) -> Check {
     for _ in 0..n {
         let mut site = full;
         for _ in 0..SENT {
-            depart(&mut site, &store, &mut out, &mut check);
+            let reply = depart(&mut site, &store, &mut out);
+            sums::replied(&mut check, reply);
         }
         check.fold(out[0]);
         check.fold(out[SIZE_LIMIT - 1]);
