@@ -12,6 +12,7 @@ use store::{STORE_LENGTH, Site};
 
 const FLOWS: usize = 4;
 
+// The flows open. Of this program alone: one for any scheduler, weights and number of flows would be longer than this loop.
 fn opened() -> Site {
     let mut site = Site::new();
     for f in 0..FLOWS {

@@ -6,7 +6,7 @@ use bench_loops::{FULL, SENT, sums, words};
 use model::{FLOW_LIMIT, QUEUE_LIMIT, Reply, SIZE_LIMIT};
 use store::{STORE_LENGTH, Site};
 
-// Every flow open, by weights of 1 to 4.
+// Every flow open, by weights of 1 to 4. Of this program alone: one for states and sites would be longer than this loop.
 fn opened() -> Site {
     let mut site = Site::new();
     for f in 0..FLOW_LIMIT {
