@@ -6,7 +6,8 @@ ghost use Rattle.std.specs.Prelude.{◌*◌, ◌<◌, ◌≤◌, ◌≡◌, leng
 ghost use Rattle.intake.specs.Intake.{LieAtStart};
 ghost use Rattle.week.specs.Reading.{Sound};
 ghost use Rattle.week.specs.Week.{site_limit};
-ghost use Rattle.sheet_text.specs.Sheet.{remark_limit};
+ghost use Rattle.print.specs.Page.{page, put};
+ghost use Rattle.sheet_text.specs.Sheet.{sums_text, remark_limit};
 ghost use Rattle.sheet.specs.Made.{JudgesASite, RemarksASite, MakesASheet};
 
 use play::{INPUT_LIMIT, OUTPUT_LIMIT};
@@ -82,7 +83,8 @@ fn sheet<R: Env + Files + Print>(rt: &R, sites: usize)
 
 // The sums from the start of a buffer; tells how many bytes they are.
 fn put_sums(out: &mut [u8], week: Week) -> usize
-    ensures { result ≤ length out.new }
+    ensures put { page out.new result ≡ put (page out.old 0) (sums_text week) }
+    ensures within { result ≤ length out.new }
 {
     let mut page = Page::new(out);
     sheet_text::sums(&mut page, week);

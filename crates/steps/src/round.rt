@@ -27,7 +27,7 @@ fn rounded_up(excess: u16, weight: u16) -> u16
     if weight == 0 {
         0
     } else {
-        (excess + (weight - 1)) / weight
+        excess.div_ceil(weight)
     }
 }
 

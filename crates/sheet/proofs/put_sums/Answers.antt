@@ -3,5 +3,5 @@ use Rattle.std.proofs.Common.{rules}
 use Rattle.print.proofs.PutsLaws.{over_within}
 use Rattle.sheet.proofs.put_sums.Goals as goal
 
-pub returns : goal.returns
-returns c = over_within (record { empty = c.new-page.ensures.empty; holds = search rules }) c.sums.ensures c.past.ensures
+pub returns-clause-within : goal.returns-clause-within
+returns-clause-within c = over_within (record { empty = c.new-page.ensures.empty; holds = search rules }) c.sums.ensures c.past.ensures
