@@ -1,4 +1,5 @@
 // What the bench's loops share: the checksum, the sizes offered, the opened flows, the full state, and the program's arguments. bench/plain/README.md defines the loops.
+// Each program has a main and loops of its own: a loop that is handed a closure, or shared, is inlined otherwise than the one that is to be counted.
 #![tactic(auto)]
 
 use model::{FLOW_LIMIT, QUEUE_LIMIT, Reply};

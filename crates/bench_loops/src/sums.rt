@@ -1,4 +1,4 @@
-// The checksum of what the calls reply.
+// The checksum of what the calls reply, in the numbers of bench/plain/README.md; those of the test rooms differ.
 use checksums::Checksum;
 use model::{Refusal, Reply, Sent};
 

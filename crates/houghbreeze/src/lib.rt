@@ -1,6 +1,6 @@
 // The calls for firmware, as include/houghbreeze.h declares them and crate houghbreeze_c exports them. An image is lent and changed in place; a reply is
 // handed back by value. The calls on bytes are the calls on sizes, with the packet's bytes moved beside them; reset and open do the same for a site, under
-// the name that C declares for it.
+// the name that C declares for it. C has only bytes to give, so that they are a sound image is a clause of each call and of no type.
 #![tactic(auto)]
 
 ghost use Rattle.image.specs.Image.{SoundImage};

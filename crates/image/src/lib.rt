@@ -45,7 +45,7 @@ const SENT: usize = ALLOWED + 2;
 
 pub const IMAGE: usize = SENT + 2;
 
-// A number of two bytes, the lower first.
+// A number of two bytes, the lower first. Layout's functions for eight bytes are not these made generic: no trait of std's has `from_le_bytes`.
 fn pair_at(image: &[u8], at: usize) -> u16
     requires { at + pair_room ≤ length image.now }
     ensures { result ≡ pair_in image.now at }
@@ -53,6 +53,7 @@ fn pair_at(image: &[u8], at: usize) -> u16
     u16::from_le_bytes([image[at], image[at + 1]])
 }
 
+#[tactic(auto, using(crate::proofs::RoundBytes::pair_stored))]
 fn put_pair(image: &mut [u8], at: usize, n: u16)
     requires { at + pair_room ≤ length image.old }
     ensures { image.new ≡ sets image.old at (digits pair_room n) }
@@ -62,7 +63,8 @@ fn put_pair(image: &mut [u8], at: usize, n: u16)
     image[at + 1] = high;
 }
 
-// A turn's flow and one more lies there; 0 where no turn is open.
+// A turn's flow and one more lies there; 0 where no turn is open, since an image of zeros is a new state to C.
+#[tactic(auto, unfolding(crate::specs::Image::turn_from))]
 fn turn_of(f: u8, allowed: u16, sent: u16) -> Serving
     ensures { result ≡ turn_from f allowed sent }
 {
@@ -86,6 +88,7 @@ pub fn round_at(image: &[u8]) -> RoundCell
     }
 }
 
+#[tactic(auto, using(crate::proofs::RoundBytes::turn_stored))]
 fn put_turn(image: &mut [u8], f: u8, allowed: u16, sent: u16)
     requires { length image.old ≡ image_length }
     ensures { image.new ≡ sets image.old (cells_length + 6) (f ∷ digits pair_room allowed ++ digits pair_room sent) }
@@ -110,7 +113,7 @@ pub fn put_round(image: &mut [u8], r: RoundCell)
     }
 }
 
-// A byte that is 0 is not written: a loop that writes every byte would become a call of C's memset.
+// A byte that is 0 is not written: a loop that writes every byte, as `fill`, would become a call of C's memset, and the archive may call nothing.
 pub fn clear(image: &mut [u8])
     ensures { image.new ≡ replicate (length image.old) 0 }
 {

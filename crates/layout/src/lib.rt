@@ -1,5 +1,6 @@
 // Where the flows and the line of a state lie: in one array of bytes, so that a caller can lend the whole of it and a call changes in place what it
 // concerns. First, for each flow, the sizes of its waiting packets; then, for each flow, its other numbers; then the line. No user calls these functions.
+// The bytes are a slice whose length is asked, and no array: those that C lends are a part of an image.
 #![tactic(auto)]
 
 ghost use Rattle.std.specs.Prelude.{◌≡◌, ◌≤◌, ◌<◌, ◌+◌, length, take, drop};

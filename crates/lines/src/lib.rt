@@ -74,7 +74,8 @@ fn field_at(input: &[u8], at: usize, word: &[u8]) -> Option<(usize, usize)>
     number_at(input, past)
 }
 
-// The place just past a word, which stands there byte by byte.
+// The place just past a word, which stands there byte by byte. `starts_with` on the rest of the input would find no empty word past its end, where the
+// definition does.
 #[tactic(auto, unfolding(crate::specs::Line::past_word, crate::specs::Number::stands))]
 fn past_word(input: &[u8], at: usize, word: &[u8]) -> Option<usize>
     ensures { result ≡ past_word input.now at word.now }
@@ -104,7 +105,7 @@ fn number_at(input: &[u8], at: usize) -> Option<(usize, usize)>
     Some((value, past))
 }
 
-// The digits at a place: as many as stand there, and at most as many as a number may have.
+// The digits at a place: as many as stand there, and at most as many as a number may have. std's `parse` takes a sign and zeros in front, which no line may have.
 fn digits_at(input: &[u8], at: usize) -> Digits
     ensures { result ≡ digits_from most_digits 0 input.now at }
 {

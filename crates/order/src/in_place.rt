@@ -1,5 +1,5 @@
 // The calls on packet sizes, in place: the bytes of a state and its round are lent. What a call does is said here, once; a method with self lends the parts
-// of its own state, and a caller in another language lends those of an image.
+// of its own state, and a caller in another language lends those of an image: so cells and round come apart, and that they are sound together is a clause.
 ghost use Rattle.order.specs.Encoding.{state_with, Sound};
 ghost use Rattle.order.specs.Promised.{OpenGives, OfferGives, DepartGives, BurstGives, left_by};
 
@@ -45,7 +45,7 @@ pub fn depart(cells: &mut [u8], r: &mut RoundCell) -> Departed
     Departed { reply, from }
 }
 
-// Up to n departures, whose flow numbers go into the list from its start; tells how many there were.
+// Up to n departures, whose flow numbers go into the list from its start; tells how many there were, document 01's bounded count.
 pub fn burst(
     cells: &mut [u8],
     r: &mut RoundCell,

@@ -1,4 +1,5 @@
-// A page: a buffer into which items are put one behind the other, from its start. What does not fit is left off.
+// A page: a buffer into which items are put one behind the other, from its start. What does not fit is left off. It lies in a lent buffer, and no call has a
+// heap for a String; std's `write!` promises nothing of the text that it writes, and these methods say it.
 #![tactic(auto)]
 
 ghost use Rattle.std.specs.Prelude.{[], ◌∷◌, ◌++◌, ◌≡◌};

@@ -33,7 +33,7 @@ type Events = [u8; INPUT_LIMIT + 1];
 
 type Output = [u8; OUTPUT_LIMIT + 1];
 
-// The sums over all sites, and the place up to which the remarks are put.
+// The sums over all sites, and the place up to which the remarks are put: their page is gone with its loan of the buffer.
 #[derive(Clone, Copy)]
 struct Made {
     week: Week,

@@ -16,6 +16,7 @@ const BASE: u64 = SIZE_LIMIT as u64;
 const DIGIT_BITS: usize = 8;
 
 // What a digit at a place of that number is worth.
+#[tactic(auto, using(crate::proofs::Packed::worth_is))]
 fn worth(at: usize) -> u64
     requires { at < queue_limit }
     ensures { result ≡ size_limit ^ at }
@@ -51,6 +52,7 @@ impl FlowCell {
     }
 
     // Step 2: the surplus becomes 0.
+    #[tactic(auto, using(crate::proofs::FlowLaws::cleared_law))]
     pub fn clear(&mut self)
         requires { FlowReady self.old }
         ensures { self.new ≡ encode_flow (surplus_cleared (view_flow self.old)) }
@@ -59,6 +61,7 @@ impl FlowCell {
     }
 
     // Step 3: the size of the first packet, if there is one; any flow may be asked.
+    #[tactic(auto, using(crate::proofs::FlowLaws::first_size_law))]
     pub fn first_size(self) -> u16
         ensures { HasFirst self → result ≡ first_size (view_flow self) }
     {
@@ -92,6 +95,7 @@ impl FlowCell {
     }
 
     // Step 6: with packets waiting the surplus is the excess.
+    #[tactic(auto, using(crate::proofs::FlowLaws::excess_law))]
     pub fn keep_excess(&mut self, allowed: u16, sent: u16)
         requires flow_ready { FlowReady self.old }
         requires some_wait { 0 < self.old.waiting }

@@ -12,7 +12,8 @@ pub mod round;
 // The line has one cell more than there are flows, always 0, so that taking the head out is one move of whole words.
 pub const LINE_ROOM: usize = FLOW_LIMIT + 1;
 
-// One flow: the sizes of its waiting packets, each less one so that 256 fits a byte, are the digits of one number in base 256, the first packet's lowest.
+// One flow. Weight 0 says that it is not open, as the model has it. The sizes of its waiting packets, each less one so that 256 fits a byte, are the digits of
+// one number in base 256, the first packet's lowest, and no list: so the first packet leaves by one division.
 #[derive(Clone, Copy)]
 pub struct FlowCell {
     pub weight: u16,
@@ -22,7 +23,7 @@ pub struct FlowCell {
     pub sizes: u64,
 }
 
-// The round's numbers; `length` tells how many flows stand in the line.
+// The round's numbers; `length` tells how many flows stand in the line. The line is lent beside it and is no Vec, since no call has a heap.
 #[derive(Clone, Copy)]
 pub struct RoundCell {
     pub length: u8,
@@ -32,8 +33,8 @@ pub struct RoundCell {
     pub turn: Serving,
 }
 
-// A packet's flow, its slot there and its size; of size 0 where there is no packet. An Option in its place was tried: a branch on it costs a departure of
-// bytes a copy of the whole state.
+// A packet's flow, its slot there and its size; of size 0 where there is no packet. Beside a reply it is no Option, which would
+// say a second time whether a packet departs.
 #[derive(Clone, Copy)]
 pub struct Place {
     pub flow: usize,

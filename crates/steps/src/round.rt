@@ -1,4 +1,6 @@
-// What the steps do to the round. A step that changes the line has it lent.
+// What the steps do to the round. A step that changes the line has it lent. A turn's flow, allowance and bytes sent are three numbers here, as in
+// document 01's Turn. Each step asks for a flow or a round that is ready: a type that kept it would have each step show again what the model proves once of
+// whole states.
 ghost use Rattle.std.specs.Prelude.{◌≡◌, ℕ, ◌+◌, ◌*◌, ◌-◌, ◌≤◌, ◌<◌, max};
 ghost use Rattle.model.specs.Limits.{weight_limit, mark_limit, flow_limit};
 ghost use Rattle.model.specs.Model.{Round};
@@ -70,6 +72,7 @@ impl RoundCell {
     }
 
     // Step 2: a round starts where no visit is left.
+    #[tactic(auto, using(crate::proofs::RoundLaws::started_law, crate::proofs::RoundLaws::going_on_law))]
     pub fn start(&mut self)
         ensures { StepGives self.old round_started self.new }
     {
@@ -92,6 +95,7 @@ impl RoundCell {
     }
 
     // Step 4: the turn stays open.
+    #[tactic(auto, using(crate::proofs::RoundLaws::kept_law))]
     pub fn keep_turn(&mut self, f: u8, allowed: u16, sent: u16)
         ensures { StepGives self.old (λ (q : Round). turn_kept q f allowed sent) self.new }
     {

@@ -1,7 +1,7 @@
 // Moving bytes.
 ghost use Rattle.std.specs.Prelude.{◌≡◌, ◌++◌, ◌≤◌, length, drop};
 
-// Writes src at the start of dst and leaves the rest.
+// Writes src at the start of dst and leaves the rest. `copy_from_slice` would call C's memmove, and the archive may call nothing.
 pub fn copy_in(dst: &mut [u8], src: &[u8])
     requires { length src.now ≤ length dst.old }
     ensures { dst.new ≡ src.now ++ drop (length src.now) dst.old }

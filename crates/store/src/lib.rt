@@ -34,6 +34,7 @@ impl Model for Site {
 }
 
 impl Site {
+    #[tactic(auto, using(crate::proofs::SiteLaws::new_law))]
     pub fn new() -> Site
         ensures { NewGives result }
     {
@@ -48,6 +49,7 @@ impl Site {
         Site::new()
     }
 
+    #[tactic(auto, using(crate::proofs::SiteLaws::open_law))]
     pub fn open(self, f: usize, weight: usize) -> Outcome<Site, Result<(), Refusal>>
         ensures { OpenGives self f weight result }
     {

@@ -7,6 +7,7 @@ use crate::bytes::copy_in;
 use model::{QUEUE_LIMIT, SIZE_LIMIT};
 
 // The byte at which slot k of flow f begins.
+#[tactic(auto, unfolding(crate::specs::Slots::slot_start))]
 fn start(f: usize, k: usize) -> usize
     requires { (f < flow_limit) × (k < queue_limit) }
     ensures { result ≡ slot_start f k }
@@ -14,7 +15,8 @@ fn start(f: usize, k: usize) -> usize
     SIZE_LIMIT * (QUEUE_LIMIT as usize * f + k)
 }
 
-// Writes a packet in slot k of flow f.
+// Writes a packet in slot k of flow f. A `Place` would bring a second length beside the packet's; and no place keeps these bounds, since that of a flow in no
+// sound state may be asked for.
 pub fn write(store: &mut [u8], f: usize, k: usize, packet: &[u8])
     requires whole_store { length store.old ≡ store_length }
     requires flow_in_range { f < flow_limit }

@@ -1,5 +1,6 @@
 // A departure: document 01's steps 2 to 6 one after the other, on the round and the flow whose turn it is. No user calls these functions: the state's
-// calls stand above, and what they may count on is shown there.
+// calls stand above, and what they may count on is shown there. Line, round and flow are lent side by side: they lie apart in a state, and a struct of the three
+// would be made anew for each call.
 #![tactic(auto)]
 
 ghost use Rattle.std.specs.Prelude.{◌≡◌, List, get_or, ℕ};

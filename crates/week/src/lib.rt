@@ -25,7 +25,8 @@ pub enum Verdict {
     OutputUnread,
 }
 
-// The sums over the sites so far, how many of them are in the sums, and how many there are.
+// The sums over the sites so far, how many of them are in the sums, and how many there are. It keeps no invariant: `with_unread` takes any week that has room
+// for a site, and may not ask more.
 #[derive(Clone, Copy)]
 pub struct Week {
     pub shares: Shares,
@@ -68,7 +69,7 @@ impl Week {
     }
 
     // One site more. The buffers begin with what was read of its files, so many bytes; each is longer than any file that counts. They come whole, with
-    // a length beside, since the contract is about the whole files: a buffer's own length says that nothing that counts was cut off.
+    // a length beside, since the contract (`GivesSite`) is about the whole files: a buffer's own length says that nothing that counts was cut off.
     pub fn with_site(
         self,
         events: &[u8],
