@@ -1,0 +1,2 @@
+-- The law of the loop that takes in bytes.
+mod FoldLaws

@@ -1,0 +1,2 @@
+-- Checksum: what a checksum takes in.
+pub mod Checksum
