@@ -1,6 +1,9 @@
 // The arguments that a program was started with.
 #![tactic(auto)]
 
+ghost use Rattle.std.specs.Prelude.{IfSome};
+ghost use Rattle.arguments.specs.Argument.{Spells, BeginsWith};
+
 use std::env::{Env, FillError};
 use std::str;
 
@@ -11,12 +14,20 @@ pub fn count<R: Env>(rt: &R) -> usize {
         .count()
 }
 
-// The number that an argument spells in decimal digits. One that is missing, has any other byte or is longer than the buffer spells none.
-pub fn number<R: Env>(rt: &R, i: usize, buffer: &mut [u8]) -> Option<usize> {
-    let length = rt.arg(i, buffer).ok()?;
-    let word = &buffer[..length];
-    if !word.iter().all(u8::is_ascii_digit) {
+// The number that a word spells in decimal digits. One that has any other byte spells none: `parse` lets a plus stand before the digits.
+fn spelled(word: &[u8]) -> Option<usize>
+    ensures { IfSome result (Spells word.now) }
+{
+    if word.first() == Some(&b'+') {
         return None;
     }
     str::from_utf8(word).ok()?.parse().ok()
+}
+
+// The number that an argument spells in decimal digits. One that is missing, has any other byte or is longer than the buffer spells none.
+pub fn number<R: Env>(rt: &R, i: usize, buffer: &mut [u8]) -> Option<usize>
+    ensures { IfSome result (BeginsWith buffer.new) }
+{
+    let length = rt.arg(i, buffer).ok()?;
+    spelled(&buffer[..length])
 }

@@ -1,0 +1,2 @@
+-- Argument: what a number among the arguments is.
+pub mod Argument
