@@ -1,0 +1,2 @@
+-- Words that spell a number are texts.
+mod WordLaws
