@@ -140,7 +140,7 @@ fn answer_line<T: Copy>(page: &mut Page<'_, u8>, answer: Result<T, Refusal>, lin
     ensures { Puts (text_of (refusal answer line)) page.old page.new }
 {
     if let Err(refusal) = answer {
-        report::refused_line(page, usize::from(u8::from(refusal)), line);
+        report::refused_line(page, refusal, line);
     }
 }
 

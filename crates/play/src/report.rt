@@ -1,9 +1,10 @@
 // The lines that report what happens, each put on a page.
+ghost use Rattle.model.specs.Replies.{number_of};
 ghost use Rattle.play.specs.Story.{bad, refused, sent, idle};
 ghost use Rattle.play.specs.Transcript.{reply_text, line_of};
 ghost use Rattle.print.specs.Puts.{Puts};
 
-use model::Sent;
+use model::{Refusal, Sent};
 use print::Page;
 
 pub fn bad_line(page: &mut Page<'_, u8>, line: usize)
@@ -13,10 +14,10 @@ pub fn bad_line(page: &mut Page<'_, u8>, line: usize)
     page.push(b'\n');
 }
 
-pub fn refused_line(page: &mut Page<'_, u8>, refusal: usize, line: usize)
-    ensures { Puts (line_of (refused refusal line)) page.old page.new }
+pub fn refused_line(page: &mut Page<'_, u8>, refusal: Refusal, line: usize)
+    ensures { Puts (line_of (refused (number_of refusal) line)) page.old page.new }
 {
-    page.field(b"refused=", refusal);
+    page.field(b"refused=", usize::from(u8::from(refusal)));
     page.field(b" line=", line);
     page.push(b'\n');
 }
