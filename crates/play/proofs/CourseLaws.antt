@@ -22,12 +22,11 @@ use Rattle.order.specs.declared.Departed.{Departed}
 use Rattle.steps.specs.declared.Place.{Place}
 use Rattle.order.specs.State.{State}
 use Rattle.order.proofs.StateLaws.{open_seen, offer_seen, depart_seen}
-use Rattle.play.specs.Course.{replay_of, Desk, desk, reported, Goes}
+use Rattle.play.specs.Course.{Desk, desk, reported, Goes}
 use Rattle.print.specs.Puts.{Puts}
 use Rattle.print.specs.declared.Page.{Page as Held}
 use Rattle.play.specs.Story.{sent, idle, Replay, Happening, refusal, answered, sending, happening}
 use Rattle.play.specs.Transcript.{line_of, text_of}
-use Rattle.play.specs.declared.Course.{Course}
 use Rattle.play.proofs.LogLaws.{reported_append, nothing_reported, idle_reported, answer_reported, sent_reported}
 use Rattle.play.proofs.StoryLaws.{replay, sending_none, sending_goes_on, sending_ends}
 
@@ -37,14 +36,11 @@ reply_departed g = ap (λ (d : Outcome State Departed). d.reply.reply) g.outcome
 
 -- ---- one event: a flow opened, a packet offered
 
-as_event : (c : Course) (line : ℕ) {page log page' log' : Held ℕ} {next : Course} (event known : Event) → event ≡ known
-    → Goes c page log (happening (replay_of c) line known) next page' log' → Goes c page log (happening (replay_of c) line event) next page' log'
-as_event c line {page} {log} {page'} {log'} {next} event known e g =
-    subst (λ (x : Event). Goes c page log (happening (replay_of c) line x) next page' log') (sym e) g
-
--- The course behind an answer: only the scheduler has changed.
-abbrev answered_course : Course → State → Course
-answered_course c s = record { state = s; sent = c.sent }
+as_event : {r seen : Replay} (line : ℕ) {page log page' log' : Held ℕ} {next : Replay} (event known : Event) → seen ≡ r → event ≡ known
+    → Goes page log (happening seen line known) next page' log' → Goes page log (happening r line event) next page' log'
+as_event {r} {seen} line {page} {log} {page'} {log'} {next} event known s e g =
+    subst (λ (x : Replay). Goes page log (happening x line event) next page' log') s
+    (subst (λ (x : Event). Goes page log (happening seen line x) next page' log') (sym e) g)
 
 -- An answer is printed.
 abbrev Prints : {T : Type 0} → ℕ → Held ℕ → Held ℕ → Result T Refusal → Type 0
@@ -55,32 +51,32 @@ place_unseen : (a : Answer) (place : Place) (line : ℕ) → refusal (ok_with a 
 place_unseen (Ok done) place line = refl
 place_unseen (Err r) place line = refl
 
-module _ (c : Course) (S : Sound c.state) (line : ℕ) {page : Held ℕ} (log : Held ℕ) {page' : Held ℕ} where
-  answer_goes : {T : Type 0} (s : State) (answer : Result T Refusal) → Prints line page page' answer → (o : Outcome Scheduler Answer) → refusal answer line ≡ refusal o.reply line → view s ≡ o.state → Sound s
-      → Goes c page log (answered (replay_of c) line o) (answered_course c s) page' log
-  unfolding answered replay_of
-  answer_goes s answer e o a v sound =
+-- Behind an answer only the scheduler has changed.
+module _ {course : Replay} (c : State) (n : ℕ) (seen : replay (view c) n ≡ course) (S : Sound c) (line : ℕ) {page : Held ℕ} (log : Held ℕ) {page' : Held ℕ} where
+  answer_goes : {T : Type 0} (s : State) (answer : Result T Refusal) → Prints line page page' answer → (o : Outcome Scheduler Answer) → refusal answer line ≡ refusal o.reply line → view s ≡ o.state
+      → Goes page log (answered (replay (view c) n) line o) (replay (view s) n) page' log
+  unfolding answered
+  answer_goes s answer e o a v =
       record {
         reports = answer_reported log answer line e ∙ ap (reported (desk page log)) a;
-        arrives = ap (λ (m : Scheduler). replay m c.sent) v;
-        sound = sound;
+        arrives = ap (λ (m : Scheduler). replay m n) v;
       }
 
-  pub open_goes : (r : Outcome State Answer) → Prints line page page' r.reply → (event : Event) (f weight : ℕ) → event ≡ Flow f weight → OpenGives c.state f weight r
-      → Goes c page log (happening (replay_of c) line event) (answered_course c r.state) page' log
-  unfolding happening replay_of answered_as
+  pub open_goes : (r : Outcome State Answer) → Prints line page page' r.reply → (event : Event) (f weight : ℕ) → event ≡ Flow f weight → OpenGives c f weight r
+      → Goes page log (happening course line event) (replay (view r.state) n) page' log
+  unfolding happening answered_as
   open_goes r e event f weight i g =
-      as_event c line event (Flow f weight) i
-      (answer_goes r.state r.reply e (opened (view c.state) f weight) (ap (λ (a : Outcome State Answer). refusal a.reply line) g.outcome) (open_seen S g) g.sound)
+      as_event line event (Flow f weight) seen i
+      (answer_goes r.state r.reply e (opened (view c) f weight) (ap (λ (a : Outcome State Answer). refusal a.reply line) g.outcome) (open_seen S g))
 
-  pub offer_goes : (r : Outcome State (Result Place Refusal)) → Prints line page page' r.reply → (event : Event) (f size : ℕ) → event ≡ Arrive f size → OfferGives c.state f size r
-      → Goes c page log (happening (replay_of c) line event) (answered_course c r.state) page' log
-  unfolding happening replay_of offered_as offered unless_refused
+  pub offer_goes : (r : Outcome State (Result Place Refusal)) → Prints line page page' r.reply → (event : Event) (f size : ℕ) → event ≡ Arrive f size → OfferGives c f size r
+      → Goes page log (happening course line event) (replay (view r.state) n) page' log
+  unfolding happening offered_as offered unless_refused
   offer_goes r e event f size i g =
-      as_event c line event (Arrive f size) i
-      (answer_goes r.state r.reply e (offered (view c.state) f size)
-      (ap (λ (a : Outcome State (Result Place Refusal)). refusal a.reply line) g.outcome ∙ place_unseen (offer_answer f size (flow_at (view c.state) f)) _ line)
-      (offer_seen S g) g.sound)
+      as_event line event (Arrive f size) seen i
+      (answer_goes r.state r.reply e (offered (view c) f size)
+      (ap (λ (a : Outcome State (Result Place Refusal)). refusal a.reply line) g.outcome ∙ place_unseen (offer_answer f size (flow_at (view c) f)) _ line)
+      (offer_seen S g))
 
 -- ---- departures
 
@@ -136,29 +132,22 @@ module _ {goal : Desk} {end : Replay} {page log : Held ℕ} {s : State} {n left 
             ∙ sending_ends (view s) n (left - 1) (subst (λ (x : Reply). NoDeparture x) (reply_departed g) k)
 
 -- where the loop begins, and where the function returns
-module _ (c : Course) (S : Sound c.state) (count : ℕ) (page log : Held ℕ) where
-  abbrev pub send_goal : Desk
-  send_goal = reported (desk page log) (sending (replay_of c) count).reports
-
-  abbrev pub send_end : Replay
-  send_end = (sending (replay_of c) count).after
-
-  pub sends_begin : {left : ℕ} → left ≡ count → c.sent + count < 2 ^ 64 → Sends send_goal send_end page log c.state c.sent left
-  unfolding replay_of
-  sends_begin e f =
+module _ (course : Replay) (count : ℕ) (page log : Held ℕ) where
+  pub sends_begin : (s : State) (n : ℕ) {left : ℕ} → replay (view s) n ≡ course → Sound s → left ≡ count → course.departed + count < 2 ^ 64
+      → Sends (reported (desk page log) (sending course count).reports) (sending course count).after page log s n left
+  sends_begin s n {left} seen sound e f =
       record {
-        sound = S;
-        fits = omega arith;
-        reports = ap (λ (n : ℕ). reported (desk page log) (sending (replay_of c) n).reports) e;
-        arrives = ap (λ (n : ℕ). (sending (replay_of c) n).after) e;
+        sound = sound;
+        fits = omega (arith, ap (λ (r : Replay). r.departed) seen);
+        reports = ap₂ (λ (r : Replay) (k : ℕ). reported (desk page log) (sending r k).reports) seen e;
+        arrives = ap₂ (λ (r : Replay) (k : ℕ). (sending r k).after) seen e;
       }
 
-  pub send_goes : (next : Course) (page' log' : Held ℕ) → Sound next.state → (desk page' log' ≡ send_goal) × (replay (view next.state) next.sent ≡ send_end)
-      → Goes c page log (sending (replay_of c) count) next page' log'
-  unfolding replay_of
-  send_goes next page' log' sound e = record { reports = e.0; arrives = e.1; sound = sound }
+  pub send_goes : {next : Replay} {page' log' : Held ℕ} → (desk page' log' ≡ reported (desk page log) (sending course count).reports) × (next ≡ (sending course count).after)
+      → Goes page log (sending course count) next page' log'
+  send_goes e = record { reports = e.0; arrives = e.1 }
 
-  pub send_happens : (line : ℕ) (event : Event) {next : Course} {page' log' : Held ℕ} → event ≡ Send count → Goes c page log (sending (replay_of c) count) next page' log'
-      → Goes c page log (happening (replay_of c) line event) next page' log'
-  unfolding happening
-  send_happens line event e g = as_event c line event (Send count) e g
+pub send_happens : (course : Replay) (count line : ℕ) {page log : Held ℕ} (event : Event) {next : Replay} {page' log' : Held ℕ} → event ≡ Send count
+    → Goes page log (sending course count) next page' log' → Goes page log (happening course line event) next page' log'
+unfolding happening
+send_happens course count line event e g = as_event line event (Send count) refl e g

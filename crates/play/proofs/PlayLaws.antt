@@ -20,11 +20,11 @@ use Rattle.lines.proofs.Lines.{moves_on, nothing_else_is_read}
 use Rattle.reader.specs.Reader.{next_of}
 use Rattle.reader.specs.declared.Reader.{Reader}
 use Rattle.reader.proofs.ReaderLaws.{event_taken, nothing_taken}
-use Rattle.order.specs.Encoding.{view, Sound}
+use Rattle.order.specs.Encoding.{view}
 use Rattle.order.specs.Promised.{NewGives}
 use Rattle.order.specs.State.{State}
 use Rattle.order.proofs.StateLaws.{seen_as}
-use Rattle.play.specs.Course.{replay_of, asked, Desk, desk, reported, Goes, Tells}
+use Rattle.play.specs.Course.{asked, Desk, desk, reported, Goes, Tells}
 use Rattle.play.specs.Log.{Ending, departures_in, ending_in, departures_of, ending_of, log_of}
 use Rattle.print.specs.Page.{Page, page}
 use Rattle.print.specs.Puts.{Puts}
@@ -32,7 +32,6 @@ use Rattle.print.specs.declared.Page.{Page as Held}
 use Rattle.play.specs.Script.{script_from, script_of}
 use Rattle.play.specs.Story.{Report, bad, Replay, Happening, new_replay, happening, story}
 use Rattle.play.specs.Transcript.{input_limit, line_of, text_of, reports, transcript}
-use Rattle.play.specs.declared.Course.{Course}
 use Rattle.play.specs.declared.Told.{Told}
 use Rattle.print.proofs.PageLaws.{printed}
 use Rattle.print.proofs.PutsLaws.{Over, over_put}
@@ -78,23 +77,21 @@ too_long_tells input sheet notes sheet' past p n h e w =
 -- ---- the loop
 
 -- The replay's reader has come to a place of the input. Every line before it asked for at most 65,535 departures.
-pub record Plays (goal : Desk) (end : Ending) (input : List ℕ) (page log : Held ℕ) (c : Course) (reader : Reader) (line : ℕ) : Type 0 where
+pub record Plays (goal : Desk) (end : Ending) (input : List ℕ) (page log : Held ℕ) (c : Replay) (reader : Reader) (line : ℕ) : Type 0 where
   pub reads : reader.input.now ≡ input
-  pub sound : Sound c.state
   pub place : reader.at ≤ length input
   pub line_small : line ≤ reader.at + 1
-  pub sent_small : c.sent ≤ reader.at * largest
-  pub reports : reported (desk page log) (story (replay_of c) line (rest input reader.at)) ≡ goal
-  pub ends : ending_in (story (replay_of c) line (rest input reader.at)) ≡ end
+  pub sent_small : c.departed ≤ reader.at * largest
+  pub reports : reported (desk page log) (story c line (rest input reader.at)) ≡ goal
+  pub ends : ending_in (story c line (rest input reader.at)) ≡ end
 
 pub plays_begin : (text : Bor (List ℕ)) (page log : Held ℕ) (s : State) → length text.now ≤ input_limit → NewGives s → (reader : Reader) → reader ≡ record { input = text; at = 0 }
-    → Plays (reported (desk page log) (reports text.now)) (ending_of text.now) text.now page log (record { state = s; sent = 0 }) reader 1
-unfolding replay_of new_replay script_of ending_of
+    → Plays (reported (desk page log) (reports text.now)) (ending_of text.now) text.now page log (replay (view s) 0) reader 1
+unfolding new_replay script_of ending_of
 plays_begin text page log s short g reader first =
     subst Begun (sym first)
     (record {
       reads = refl;
-      sound = g.sound;
       place = omega arith;
       line_small = omega arith;
       sent_small = omega arith;
@@ -106,7 +103,7 @@ plays_begin text page log s short g reader first =
     input = text.now
 
     Begun : Reader → Type 0
-    Begun r = Plays (reported (desk page log) (reports input)) (ending_of input) input page log (record { state = s; sent = 0 }) r 1
+    Begun r = Plays (reported (desk page log) (reports input)) (ending_of input) input page log (replay (view s) 0) r 1
 
     all : length input - 0 ≡ length input
     all = omega arith
@@ -119,17 +116,17 @@ asked_at_most (Flow flow weight) h = omega arith
 asked_at_most (Arrive flow size) h = omega arith
 asked_at_most (Send count) h = h
 
-module _ {goal : Desk} {end : Ending} {input : List ℕ} {page log : Held ℕ} {c : Course} {reader : Reader} {line : ℕ} (h : Plays goal end input page log c reader line)
+module _ {goal : Desk} {end : Ending} {input : List ℕ} {page log : Held ℕ} {c : Replay} {reader : Reader} {line : ℕ} (h : Plays goal end input page log c reader line)
     {at_end : Bool} (t : at_end ≡ leb (length reader.input.now) reader.at) where
   -- What is left of the story, once it is known.
-  leads : {l : List Report} → story (replay_of c) line (rest input reader.at) ≡ l → (reported (desk page log) l ≡ goal) × (ending_in l ≡ end)
+  leads : {l : List Report} → story c line (rest input reader.at) ≡ l → (reported (desk page log) l ≡ goal) × (ending_in l ≡ end)
   leads e = (ap (reported (desk page log)) (sym e) ∙ h.reports, ap ending_in (sym e) ∙ h.ends)
 
   pub plays_end : at_end ≡ true → (desk page log ≡ goal) × (Ok tt ≡ end)
   unfolding story ending_in
   plays_end e =
       let past : length input ≤ reader.at = rw h.reads at (leb-true (length reader.input.now) reader.at (sym t ∙ e)) in
-      let l = leads (ap (story (replay_of c) line) (ends input (length input - reader.at) reader.at past)) in
+      let l = leads (ap (story c line) (ends input (length input - reader.at) reader.at past)) in
       (sym (nothing_reported (desk page log)) ∙ l.0, l.1)
 
   module _ (more : at_end ≡ false) {taken : Option Event} {after : Reader} (n : ◌≡◌ {A = Option Event × Reader} (taken, after) (next_of reader)) where
@@ -141,7 +138,7 @@ module _ {goal : Desk} {end : Ending} {input : List ℕ} {page log : Held ℕ} {
     unfolding story ending_in
     plays_bad e f =
         let bad_there : line_at input reader.at ≡ None = rw h.reads at (nothing_taken reader n e) in
-        let l = leads (ap (story (replay_of c) line) (rest_spoils input reader.at within bad_there)) in
+        let l = leads (ap (story c line) (rest_spoils input reader.at within bad_there)) in
         (bad_reported log line f ∙ l.0, l.1)
 
     module _ {event : Event} (e : taken ≡ Some event) (short : length input ≤ input_limit) where
@@ -157,15 +154,14 @@ module _ {goal : Desk} {end : Ending} {input : List ℕ} {page log : Held ℕ} {
       few_asked : asked event ≤ largest
       few_asked = asked_at_most event (nothing_else_is_read input reader.at line_there).0
 
-      pub may_run : Sound c.state × (c.sent + asked event < 2 ^ 64)
-      may_run = (h.sound, omega (arith, few_asked, h.sent_small))
+      pub may_run : c.departed + asked event < 2 ^ 64
+      may_run = omega (arith, few_asked, h.sent_small)
 
-      pub plays_on : {page' log' : Held ℕ} {d : Course} → Goes c page log (happening (replay_of c) line event) d page' log' → Plays goal end input page' log' d after (line + 1)
-      unfolding story replay_of
+      pub plays_on : {page' log' : Held ℕ} {d : Replay} → Goes page log (happening c line event) d page' log' → Plays goal end input page' log' d after (line + 1)
+      unfolding story
       plays_on {page'} {log'} {d} g =
           record {
             reads = ap (λ (text : Bor (List ℕ)). text.now) (event_taken reader n e).1 ∙ h.reads;
-            sound = g.sound;
             place = on.1;
             line_small = omega (arith, on.0, h.line_small);
             sent_small = few;
@@ -173,20 +169,20 @@ module _ {goal : Desk} {end : Ending} {input : List ℕ} {page log : Held ℕ} {
                 ap₂ (λ (k : Desk) (r : Replay). reported k (story r (line + 1) (rest input after.at))) g.reports g.arrives
                 ∙ sym (reported_append (desk page log) x.reports further)
                 ∙ left.0;
-            ends = ap (λ (r : Replay). ending_in (story r (line + 1) (rest input after.at))) g.arrives ∙ sym (goes_on (replay_of c) line event further) ∙ left.1;
+            ends = ap (λ (r : Replay). ending_in (story r (line + 1) (rest input after.at))) g.arrives ∙ sym (goes_on c line event further) ∙ left.1;
           }
         where
           x : Happening
-          x = happening (replay_of c) line event
+          x = happening c line event
 
           further : List Report
           further = story x.after (line + 1) (rest input after.at)
 
           left : (reported (desk page log) (x.reports ++ further) ≡ goal) × (ending_in (x.reports ++ further) ≡ end)
-          left = leads (ap (story (replay_of c) line) (rest_reads input reader.at within line_there))
+          left = leads (ap (story c line) (rest_reads input reader.at within line_there))
 
-          sent_is : d.sent ≡ x.after.departed
+          sent_is : d.departed ≡ x.after.departed
           sent_is = ap (λ (r : Replay). r.departed) g.arrives
 
-          few : d.sent ≤ after.at * largest
-          few = omega (arith, sent_is, departed_at_most (replay_of c) line event, few_asked, h.sent_small, on.0)
+          few : d.departed ≤ after.at * largest
+          few = omega (arith, sent_is, departed_at_most c line event, few_asked, h.sent_small, on.0)

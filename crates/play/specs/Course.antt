@@ -1,21 +1,15 @@
--- How far a replay has come, as code keeps it, and what an event makes of it; and what the whole replay gives.
+-- What an event makes of a replay and of the pages that it is told on; and what the whole replay gives.
 use Rattle.std.specs.Prelude.{ℕ, List, ◌≡◌}
 use Rattle.std.specs.Borrow.{GName}
 use Rattle.lines.specs.declared.Event.{Event}
 use Rattle.lines.specs.declared.Event.TheVariants.{Flow, Arrive, Send}
-use Rattle.order.specs.Encoding.{view, Sound}
 use Rattle.print.specs.Page.{Page, put, Printed}
 use Rattle.print.specs.Puts.{lent, stands_for}
 use Rattle.print.specs.declared.Page.{Page as Held}
 use Rattle.play.specs.Story.{Report, Replay, Happening}
 use Rattle.play.specs.Transcript.{text_of, transcript}
 use Rattle.play.specs.Log.{departures_in, departures_of, ending_of, log_of}
-use Rattle.play.specs.declared.Course.{Course}
 use Rattle.play.specs.declared.Told.{Told}
-
--- the replay that it stands for
-unfoldable pub replay_of : Course → Replay
-replay_of c = record { scheduler = view c.state; departed = c.sent }
 
 -- the departures that an event asks for
 abbrev pub asked : Event → ℕ
@@ -36,11 +30,10 @@ desk page log = record { printed = stands_for page; log = stands_for log; printe
 unfoldable pub reported : Desk → List Report → Desk
 reported k reports = record k { printed = put k.printed (text_of reports); log = put k.log (log_of (departures_in reports)) }
 
--- From one course and desk to the next: what happens is reported behind what was reported before.
-pub record Goes (c : Course) (page log : Held ℕ) (h : Happening) (next : Course) (page' log' : Held ℕ) : Type 0 where
+-- From one desk to the next: what happens is reported behind what was reported before, and the replay is the one after it.
+pub record Goes (page log : Held ℕ) (h : Happening) (next : Replay) (page' log' : Held ℕ) : Type 0 where
   pub reports : desk page' log' ≡ reported (desk page log) h.reports
-  pub arrives : replay_of next ≡ h.after
-  pub sound : Sound next.state
+  pub arrives : next ≡ h.after
 
 -- The whole replay of an input: its transcript is printed and its departures are noted, as far as the buffers have room, and its ending is told.
 pub record Tells (input out log : List ℕ) (r : Told) (out' log' : List ℕ) : Type 0 where

@@ -2,12 +2,12 @@
 #![tactic(auto)]
 
 ghost use Rattle.std.specs.Prelude.{◌≡◌, ◌+◌, ◌≤◌, ◌<◌, ◌^◌, length};
-ghost use Rattle.order.specs.Encoding.{Sound};
-ghost use Rattle.play.specs.Course.{replay_of, asked, desk, reported, Goes, Tells};
+ghost use Rattle.order.specs.Encoding.{view as scheduler_of, Sound};
+ghost use Rattle.play.specs.Course.{asked, desk, reported, Goes, Tells};
 ghost use Rattle.play.specs.Log.{ending_of};
 ghost use Rattle.print.specs.Page.{Printed, PrintedWhole};
 ghost use Rattle.print.specs.Puts.{Puts};
-ghost use Rattle.play.specs.Story.{refusal, sending, happening};
+ghost use Rattle.play.specs.Story.{Replay, refusal, sending, happening};
 ghost use Rattle.play.specs.Transcript.{input_limit, output_limit, text_of, reports, transcript};
 
 use lines::Event;
@@ -15,6 +15,7 @@ use model::{Outcome, Refusal, Reply};
 use order::State;
 use print::Page;
 use reader::Reader;
+use std::marker::Model;
 
 mod log;
 mod report;
@@ -40,10 +41,20 @@ pub struct Told {
 }
 
 // How far a replay has come: the scheduler and the departures so far.
-#[derive(Clone, Copy)]
+#[derive(Drop)]
 struct Course {
     state: State,
     sent: usize,
+}
+
+// Contracts see the replay that it stands for. That its state is sound is said here too, as a proof sees State's own invariant only where State's fields
+// are in sight.
+impl Model for Course {
+    ghost Value = { Replay };
+
+    ghost view = { λ c. record { scheduler = scheduler_of c.state; departed = c.sent } };
+
+    ghost invariant = { λ c. Sound c.state };
 }
 
 // The replay of an input, printed into a buffer from its start; answers with the number of bytes.
@@ -116,9 +127,8 @@ fn run(
     event: Event,
     line: usize,
 )
-    requires sound { Sound course.old.state }
-    requires event_bound { course.old.sent + asked event < 2 ^ 64 }
-    ensures { Goes course.old page.old log.old (happening (replay_of course.old) line event) course.new page.new log.new }
+    requires { course.old.departed + asked event < 2 ^ 64 }
+    ensures { Goes page.old log.old (happening course.old line event) course.new page.new log.new }
 {
     match event {
         Event::Flow(flow, weight) => {
@@ -146,9 +156,8 @@ fn answer_line<T: Copy>(page: &mut Page<'_, u8>, answer: Result<T, Refusal>, lin
 
 // Up to so many departures, ending at the first idle.
 fn send(course: &mut Course, page: &mut Page<'_, u8>, log: &mut Page<'_, u16>, count: usize)
-    requires sound { Sound course.old.state }
-    requires count_bound { course.old.sent + count < 2 ^ 64 }
-    ensures { Goes course.old page.old log.old (sending (replay_of course.old) count) course.new page.new log.new }
+    requires { course.old.departed + count < 2 ^ 64 }
+    ensures { Goes page.old log.old (sending course.old count) course.new page.new log.new }
 {
     for _ in 0..count {
         let Outcome { state, reply } = course.state.depart();

@@ -11,9 +11,7 @@ returns-in_default c =
     record { noted_after = all.0; ending_value = all.1 }
 
 pub run-requires : goal.run-requires
-run-requires c =
-    let all = may_run c.loop-reader.invariant c.is_at_end.ensures c.loop-reader-test.true c.next.ensures c.in-Some.is c.requires in
-    record { sound = all.0; event_bound = all.1 }
+run-requires c = may_run c.loop-reader.invariant c.is_at_end.ensures c.loop-reader-test.true c.next.ensures c.in-Some.is c.requires
 
 pub loop-reader-smaller : goal.loop-reader-smaller
 loop-reader-smaller c = less_left c.loop-reader.invariant c.is_at_end.ensures c.loop-reader-test.true c.next.ensures c.in-Some.is c.requires

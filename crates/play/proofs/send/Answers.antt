@@ -4,19 +4,21 @@ use Rattle.play.proofs.CourseLaws.{sends_begin, sends_none, sends_on, sends_idle
 use Rattle.play.proofs.send.Goals as goal
 
 pub loop-init : goal.loop-init
-loop-init c = sends_begin _ c.requires.sound _ _ _ (omega arith) c.requires.count_bound
+loop-init c = sends_begin _ _ _ _ _ _ c.course.view_is c.course.invariant (omega arith) c.requires
+
+pub invariant_of-course : goal.invariant_of-course
+invariant_of-course c = c.loop.invariant.sound
 
 pub returns-in_default : goal.returns-in_default
 returns-in_default c =
-    let departs = c.depart-state.ensures in
-    send_goes _ c.requires.sound _ _ _ _ _ _ departs.sound (sends_idle c.loop.invariant _ departs (omega arith) c.in_default.not-Departure c.idle_line.ensures)
+    send_goes _ _ _ _ (sends_idle c.loop.invariant _ c.depart-state.ensures (omega arith) c.in_default.not-Departure c.idle_line.ensures)
+
+pub overflow_add-course : goal.overflow_add-course
+overflow_add-course c = omega (arith, c.loop.invariant.fits)
 
 pub loop-preserved : goal.loop-preserved
 loop-preserved c =
-    let departs = c.depart-state.ensures in
-    sends_on c.loop.invariant _ departs (omega arith) _ c.in-Departure.is c.sent_line.ensures c.note.ensures
+    sends_on c.loop.invariant _ c.depart-state.ensures (omega arith) _ c.in-Departure.is c.sent_line.ensures c.note.ensures
 
 pub returns : goal.returns
-returns c =
-    let inv = c.loop.invariant in
-    send_goes _ c.requires.sound _ _ _ _ _ _ inv.sound (sends_none inv (omega arith))
+returns c = send_goes _ _ _ _ (sends_none c.loop.invariant (omega arith))
