@@ -111,6 +111,14 @@ plays_begin text page log s short g reader first =
     whole : story (replay (view s) 0) 1 (rest input 0) ≡ reports input
     whole = ap₂ (λ (m : Scheduler) (n : ℕ). story (replay m 0) 1 (script_from n input 0)) (seen_as new_keeps g.outcome) all ∙ sym (short_reports input short)
 
+module _ {goal : Desk} {end : Ending} {input : List ℕ} {page log : Held ℕ} {c : Replay} {reader : Reader} where
+  pub counted_as : {line n : ℕ} → line ≡ n → Plays goal end input page log c reader n → Plays goal end input page log c reader line
+  counted_as e h = subst (λ (k : ℕ). Plays goal end input page log c reader k) (sym e) h
+
+  -- No input has so many lines that they could not be counted.
+  pub lines_left : {line : ℕ} → Plays goal end input page log c reader line → length input ≤ input_limit → 2 ^ 64 - 1 - line ≡ 0 → ⊥
+  lines_left h short e = omega (arith, h.place, h.line_small)
+
 asked_at_most : (event : Event) → Sayable event → asked event ≤ largest
 asked_at_most (Flow flow weight) h = omega arith
 asked_at_most (Arrive flow size) h = omega arith
@@ -147,9 +155,6 @@ module _ {goal : Desk} {end : Ending} {input : List ℕ} {page log : Held ℕ} {
 
       on : (reader.at < after.at) × (after.at ≤ length input)
       on = moves_on input reader.at line_there
-
-      pub less_left : length input - after.at < length input - reader.at
-      less_left = omega (arith, on)
 
       few_asked : asked event ≤ largest
       few_asked = asked_at_most event (nothing_else_is_read input reader.at line_there).0

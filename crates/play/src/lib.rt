@@ -107,14 +107,16 @@ fn replay(input: &[u8], page: &mut Page<'_, u8>, log: &mut Page<'_, u16>) -> Res
         sent: 0,
     };
     let mut reader = Reader::new(input);
-    let mut line = 1;
-    while !reader.is_at_end() {
+    // The input ends long before the numbers do.
+    for line in 1.. {
+        if reader.is_at_end() {
+            break;
+        }
         let Some(event) = reader.next() else {
             report::bad_line(page, line);
             return Err(BadLine(line));
         };
         run(&mut course, page, log, event, line);
-        line += 1;
     }
     Ok(())
 }
