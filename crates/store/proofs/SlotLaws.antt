@@ -10,16 +10,10 @@ use lib.Seq.{take_all, length-take-le, take-append-le, drop-append-le, drop-appe
 use Rattle.model.specs.Limits.{flow_limit, queue_limit, size_limit}
 use Rattle.store.specs.Slots.{store_length, slot_start, written, held}
 
--- Nothing is held in no bytes, and writing none changes nothing.
+-- Nothing is held in no bytes.
 pub held_nothing : (store : List ℕ) (f k : ℕ) → held store f k 0 ≡ []
 unfolding held
 held_nothing store f k = refl
-
-pub written_nothing : (store : List ℕ) (f k : ℕ) → written store f k [] ≡ store
-unfolding written
-written_nothing store f k =
-    let same : slot_start f k + 0 ≡ slot_start f k = omega arith in
-    ap (λ (n : ℕ). take (slot_start f k) store ++ drop n store) same ∙ take-append-drop (slot_start f k) store
 
 -- A slot has room for every packet.
 pub slot_in_store : (f k n : ℕ) → f < flow_limit → k < queue_limit → n ≤ size_limit → slot_start f k + n ≤ store_length
