@@ -7,7 +7,7 @@ use native.Mathlib.Numerals.{sub-one}
 use lib.ListN.{length, get_or, length-append, length-drop}
 use Rattle.model.specs.Limits.{weight_limit, queue_limit, size_limit}
 use Rattle.model.specs.Steps.{packet_joined, surplus_cleared, first_size, first_left, excess_kept}
-use Rattle.model.proofs.Flows.{sizes_joined, first_small, none_is_empty}
+use Rattle.model.proofs.Flows.{sizes_joined, none_is_empty}
 use Rattle.model.proofs.Choosing.{empty_by_count, waiting_by_count}
 use Rattle.steps.specs.Cells.{packed, encode_flow, view_flow}
 use Rattle.steps.specs.Premises.{FlowReady, HasFirst, HasRoom}
@@ -87,9 +87,6 @@ module _ (x : FlowCell) (h : HasFirst x) where
 
   pub first_size_law : x.sizes % size_limit + 1 ≡ first_size (view_flow x)
   first_size_law = ap (λ (m : ℕ). m % size_limit + 1) (sizes_are x h.ready.form) ∙ packed_first h.ready.rules.sizes_in_range some
-
-  pub first_size_small : first_size (view_flow x) ≤ size_limit
-  first_size_small = first_small h.ready.rules.sizes_in_range
 
   pub first_left_law : record { weight = x.weight; surplus = x.surplus; slot = (x.slot + 1) % queue_limit; waiting = x.waiting - 1; sizes = x.sizes / size_limit }
       ≡ encode_flow (first_left (view_flow x))

@@ -15,11 +15,11 @@ use Rattle.model.specs.declared.Reply.TheVariants.{Departure}
 use Rattle.model.proofs.Flows.{left_flow_rules}
 use Rattle.model.proofs.Choosing.{empty_by_count, waiting_by_count}
 use Rattle.steps.specs.Cells.{encode_flow, view_flow}
-use Rattle.steps.specs.Premises.{RoundInPlace, encode_round, view_round, FlowReady, sent_limit}
+use Rattle.steps.specs.Premises.{RoundInPlace, encode_round, view_round, FlowReady}
 use Rattle.turns.specs.Visits.{MayServe, VisitInPlace, encode_visit}
 use Rattle.steps.specs.declared.FlowCell.{FlowCell}
 use Rattle.steps.proofs.Encoded.{flow_seen, flow_ready, waiting_is}
-use Rattle.steps.proofs.FlowLaws.{nothing_kept, first_size_small}
+use Rattle.steps.proofs.FlowLaws.{nothing_kept}
 
 -- A flow without surplus keeps its rules when its first packet leaves.
 left_rules_parts : (w k : ℕ) (q : List ℕ) → FlowRules (record { weight = w; surplus = 0; slot = k; queue = q }) → 0 < length q
@@ -48,9 +48,6 @@ module _ (r : RoundInPlace) (x : FlowCell) (allowed sent : ℕ) (h : MayServe r 
   unfolding view_flow
   left_rules_here =
       left_rules (view_flow x) h.has_first.ready.rules h.no_surplus (omega (arith, waiting_is x h.has_first.ready.form, h.has_first.waits))
-
-  pub sent_small : (size : ℕ) → size ≡ first_size (view_flow x) → sent + size < sent_limit
-  sent_small size e = omega (arith, first_size_small x h.has_first, h.allowed_in_range, h.more_may_be_sent)
 
   module _ (left : FlowCell) (e : left ≡ encode_flow (first_left (view_flow x))) where
     -- What is left is again a flow of a sound state.
