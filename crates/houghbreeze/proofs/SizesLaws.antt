@@ -123,11 +123,7 @@ module _ (image : List ℕ) (S : SoundImage image) where
           ∙ ap (λ (q : RoundCell). bytes ++ round_bytes q) (sym kept))
 
     module _ (bytes : List ℕ) (after : RoundCell) (T : Sound (state_with bytes after)) where
-      -- What putting the round back may count on, and gives.
-      pub may_put_round : (length (bytes ++ drop cells_length image) ≡ image_length) × TurnFits after.turn
-      may_put_round =
-          (length-append bytes (drop cells_length image) ∙ omega (arith, bytes_count (state_with bytes after) T, ap length round_lies, round_bytes_length (round_in image)), turn_fits (state_with bytes after) T)
-
+      -- What putting the round back gives.
       round_put : {then : List ℕ} → then ≡ take cells_length (bytes ++ drop cells_length image) ++ round_bytes after → then ≡ image_of (state_with bytes after)
       unfolding image_of
       round_put p = p ∙ ap (λ (l : List ℕ). l ++ round_bytes after) (take_at bytes (drop cells_length image) cells_length (bytes_count (state_with bytes after) T))
@@ -146,3 +142,9 @@ module _ (image : List ℕ) (S : SoundImage image) where
       burst_passes p =
           leaves (state_with bytes after) k (subst (λ (q : RoundCell). BurstGives (state_with (take cells_length image) q) n before list (left_by bytes after k)) e g) g.sound
           (round_put bytes after g.sound p)
+
+-- What putting the round back may count on.
+pub may_put_round : {image bytes : List ℕ} {after : RoundCell} → SoundImage image → Sound (state_with bytes after)
+    → (length (bytes ++ drop cells_length image) ≡ image_length) × TurnFits after.turn
+may_put_round {image} {bytes} {after} S T =
+    (length-append bytes (drop cells_length image) ∙ omega (arith, bytes_count (state_with bytes after) T, ap length (round_lies image S), round_bytes_length (round_in image)), turn_fits (state_with bytes after) T)

@@ -1,5 +1,9 @@
 // The calls on packet sizes, on the bytes of an image: the round is read off it, the call is made on the state's bytes in place, and what changed of the
 // round is put back. They reply as the layer does; the calls above tell it to C.
+
+// Each call reads the round off the whole image and lends the state's bytes of it, so each counts on their lengths.
+#![tactic(auto, using(image::proofs::ImageLaws::sound_image_length, crate::proofs::SizesLaws::cells_lent))]
+
 ghost use Rattle.image.specs.Image.{SoundImage, state_in};
 ghost use Rattle.order.specs.Promised.{OpenGives, OfferGives, DepartGives, BurstGives};
 ghost use Rattle.houghbreeze.specs.Promised.{Leaves};
