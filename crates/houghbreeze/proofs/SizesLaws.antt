@@ -3,7 +3,7 @@ use Prim.Native.Nat.{ℕ, ◌<◌}
 use mathlib.Core.Path.{◌≡◌, refl, sym, ap, ◌∙◌, subst}
 use mathlib.Core.List.{List, ◌++◌}
 use native.Mathlib.Omega.{arith}
-use lib.ListN.{length, set, take, drop, length-append}
+use lib.ListN.{length, set, take, drop}
 use lib.Seq.{take_at, drop_at, set_at}
 use lib.Dec.{ltb}
 use Rattle.std.specs.Prelude.{Result, Ok, Err}
@@ -26,12 +26,11 @@ use Rattle.order.specs.Promised.{OpenGives, OfferGives, DepartGives, BurstGives,
 use Rattle.order.specs.State.{State}
 use Rattle.order.specs.declared.Departed.{Departed}
 use Rattle.order.proofs.StateLaws.{bytes_count}
-use Rattle.image.specs.Image.{round_bytes, image_of, image_length, round_start, round_in, state_in, TurnFits, SoundImage}
+use Rattle.image.specs.Image.{round_bytes, image_of, round_start, round_in, state_in, SoundImage}
 use Rattle.houghbreeze.specs.Promised.{Gives, Leaves}
 use Rattle.image.specs.Replies.{CountFits, SlotFits}
 use Rattle.image.specs.declared.HbReply.{HbReply}
-use Rattle.image.proofs.ImageLaws.{turn_fits, state_read, image_sound}
-use Rattle.image.proofs.RoundBytes.{round_bytes_length}
+use Rattle.image.proofs.ImageLaws.{state_read, image_sound}
 
 -- What a call of the layer gives, with its image and its reply.
 pub passes : {R : Type 0} {Promise : R → Type 0} {state_of : R → State} {saying : R → HbReply} (given : R) → Promise given → Sound (state_of given)
@@ -108,10 +107,6 @@ module _ (image : List ℕ) (S : SoundImage image) where
 
     module _ (f size : ℕ) (bytes : List ℕ) (after : RoundCell) (o : Result Place Refusal)
         (g : OfferGives (state_with (take cells_length image) r) f size (left_by bytes after o)) where
-      -- The line's length may be stored: it is the first of the round's bytes.
-      pub length_lies : round_start < length (bytes ++ drop cells_length image)
-      length_lies = omega (arith, length-append bytes (drop cells_length image), bytes_count _ g.sound, ap length round_lies, round_bytes_length (round_in image))
-
       pub offer_passes : Leaves (OfferGives (state_in image) f size) (set (bytes ++ drop cells_length image) round_start after.length) o
       unfolding image_of round_bytes
       offer_passes =
@@ -142,9 +137,3 @@ module _ (image : List ℕ) (S : SoundImage image) where
       burst_passes p =
           leaves (state_with bytes after) k (subst (λ (q : RoundCell). BurstGives (state_with (take cells_length image) q) n before list (left_by bytes after k)) e g) g.sound
           (round_put bytes after g.sound p)
-
--- What putting the round back may count on.
-pub may_put_round : {image bytes : List ℕ} {after : RoundCell} → SoundImage image → Sound (state_with bytes after)
-    → (length (bytes ++ drop cells_length image) ≡ image_length) × TurnFits after.turn
-may_put_round {image} {bytes} {after} S T =
-    (length-append bytes (drop cells_length image) ∙ omega (arith, bytes_count (state_with bytes after) T, ap length (round_lies image S), round_bytes_length (round_in image)), turn_fits (state_with bytes after) T)

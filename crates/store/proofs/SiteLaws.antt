@@ -6,7 +6,8 @@ use mathlib.Core.Bool.{Bool, true, false, cond}
 use lib.Dec.{eqb}
 use borrow.Author.Tests.{eqb-true, eqb-false}
 use native.Mathlib.Omega.{arith}
-use lib.ListN.{length, get_or, drop}
+use lib.ListN.{length, get_or, take, drop}
+use lib.Seq.{take_all}
 use Rattle.model.specs.Limits.{flow_limit, queue_limit, size_limit}
 use Rattle.model.specs.Model.{Scheduler, flow_at}
 use Rattle.std.specs.Prelude.{Result, Ok, Err}
@@ -126,6 +127,16 @@ module _ (site : Site) (S : SoundSite site) where
     place_fits e =
         let may : MayOffer f (length packet) (flow_at s f) = may_offer f (length packet) (flow_at s f) e in
         (may.flow_in_range, omega arith, may.size_small)
+
+    -- The store with the packet's bytes, so many as the place says, at the place that is told; none where the packet is refused.
+    abbrev pub stored_at : Result Place Refusal → List ℕ
+    stored_at (Ok p) = written store p.flow p.slot (take p.size packet)
+    stored_at (Err r) = store
+
+    -- So it has the packet in the slot that the flow's next packet takes, or nothing new.
+    pub written_there : (a : Answer) → stored_at (ok_with a place) ≡ if_ok a (written store f (next_slot_of (flow_at s f)) packet) store
+    written_there (Ok tt) = ap (λ (l : List ℕ). written store f (next_slot_of (flow_at s f)) l) (take_all (length packet) packet (omega arith))
+    written_there (Err r) = refl
 
     module _ (all : length store ≡ store_length) where
       -- Where the store has its length, state and answer are what the order layer gives.

@@ -1,12 +1,10 @@
 -- The bytes of the state are lent, and the round is put back.
-use Rattle.houghbreeze.proofs.SizesLaws.{may_put_round, depart_passes}
+use Rattle.image.proofs.ImageLaws.{turn_fits}
+use Rattle.houghbreeze.proofs.SizesLaws.{depart_passes}
 use Rattle.houghbreeze.proofs.sizes.depart.Goals as goal
 
-pub put_round-requires-clause-image_len : goal.put_round-requires-clause-image_len
-put_round-requires-clause-image_len c = (may_put_round c.requires c.depart-reply.ensures.sound).0
-
-pub put_round-requires-clause-turn_fits : goal.put_round-requires-clause-turn_fits
-put_round-requires-clause-turn_fits c = (may_put_round c.requires c.depart-reply.ensures.sound).1
+pub put_round-requires : goal.put_round-requires
+put_round-requires c = turn_fits _ c.depart-reply.ensures.sound
 
 pub returns : goal.returns
 returns c =
