@@ -30,10 +30,14 @@ use Rattle.turns.specs.Visits.{MayVisit, VisitInPlace, encode_visit, visit_in_pl
 use Rattle.layout.specs.Bytes.{byte_limit}
 use Rattle.layout.specs.Layout.{cells_length, flow_in, line_in, line_start, with_flow, with_opened}
 use Rattle.layout.proofs.Laws.{with_flow_length}
-use Rattle.order.specs.Encoding.{view, Sound}
+use Rattle.order.specs.Encoding.{view, Sound, state_with}
 use Rattle.order.specs.Promised.{OpenGives, OfferGives, DepartGives, left_by}
 use Rattle.order.specs.State.{State}
 use Rattle.order.proofs.StateLaws.{round_of, round_of_sound, bytes_count, cell_ready, at_in_reach, may_visit, visit_seen, departed_gives, index_in_reach, opened_gives, open_refused_gives, may_offer_to, offered_gives, offer_refused_gives}
+
+-- A state's bytes are lent whole.
+pub bytes_lent : (bytes : List ℕ) {r : RoundCell} → Sound (state_with bytes r) → length bytes ≡ cells_length
+bytes_lent bytes {r} S = bytes_count (state_with bytes r) S
 
 -- The line as it is lent, and the bytes with a line that has come back.
 abbrev pub lent_line : List ℕ → List ℕ

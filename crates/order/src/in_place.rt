@@ -1,5 +1,8 @@
 // The calls on packet sizes, in place: the bytes of a state and its round are lent. What a call does is said here, once; a method with self lends the parts
 // of its own state, and a caller in another language lends those of an image: so cells and round come apart, and that they are sound together is a clause.
+// Each call reads and lends parts of those bytes, so each counts on their length.
+#![tactic(auto, using(crate::proofs::LentLaws::bytes_lent))]
+
 ghost use Rattle.order.specs.Encoding.{state_with, Sound};
 ghost use Rattle.order.specs.Promised.{OpenGives, OfferGives, DepartGives, BurstGives, left_by};
 

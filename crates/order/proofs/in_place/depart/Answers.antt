@@ -1,26 +1,13 @@
 -- One visit, with the line lent, and its flow is stored once the line is back.
-use native.Mathlib.Omega.{arith}
 use Rattle.order.specs.Encoding.{state_with}
-use Rattle.order.proofs.StateLaws.{bytes_count, at_in_reach}
+use Rattle.order.proofs.StateLaws.{at_in_reach}
 use Rattle.order.proofs.LentLaws.{whose_seen, lent_may_visit, lent_may_put, lent_departed_gives}
 use Rattle.order.proofs.in_place.depart.Goals as goal
-
-pub bounds-cells-384 : goal.bounds-cells-384
-bounds-cells-384 c = omega (arith, bytes_count (state_with c.args.cells.now c.args.r.now) c.requires)
-
-pub flow_at-flow-requires-clause-all_cells : goal.flow_at-flow-requires-clause-all_cells
-flow_at-flow-requires-clause-all_cells c = bytes_count (state_with c.args.cells.now c.args.r.now) c.requires
 
 pub flow_at-flow-requires-clause-flow_in_range : goal.flow_at-flow-requires-clause-flow_in_range
 flow_at-flow-requires-clause-flow_in_range c =
     let state = state_with c.args.cells.now c.args.r.now in
     at_in_reach state c.requires c.whose-at.result (whose_seen state c.requires c.whose-at.result c.whose-at.ensures)
-
-pub slice_bounds-visit-count : goal.slice_bounds-visit-count
-slice_bounds-visit-count c = omega (arith, bytes_count (state_with c.args.cells.now c.args.r.now) c.requires)
-
-pub slice_bounds-visit-start : goal.slice_bounds-visit-start
-slice_bounds-visit-start c = omega (arith, bytes_count (state_with c.args.cells.now c.args.r.now) c.requires)
 
 pub visit-reply-requires : goal.visit-reply-requires
 visit-reply-requires c =

@@ -1,19 +1,8 @@
 -- The line is lent, and one flow is stored once it is back.
-use native.Mathlib.Omega.{arith}
 use Rattle.std.proofs.lemmas.Result.{err_from_is_err_and}
 use Rattle.order.specs.Encoding.{state_with}
-use Rattle.order.proofs.StateLaws.{bytes_count}
 use Rattle.order.proofs.LentLaws.{lent_may_offer, lent_may_put_offered, lent_offered_gives, lent_offer_refused_gives}
 use Rattle.order.proofs.in_place.offer.Goals as goal
-
-pub flow_at-flow-requires-clause-all_cells : goal.flow_at-flow-requires-clause-all_cells
-flow_at-flow-requires-clause-all_cells c = bytes_count (state_with c.args.cells.now c.args.r.now) c.requires
-
-pub slice_bounds-offer-count : goal.slice_bounds-offer-count
-slice_bounds-offer-count c = omega (arith, bytes_count (state_with c.args.cells.now c.args.r.now) c.requires)
-
-pub slice_bounds-offer-start : goal.slice_bounds-offer-start
-slice_bounds-offer-start c = omega (arith, bytes_count (state_with c.args.cells.now c.args.r.now) c.requires)
 
 pub offer-requires-clause-round_ready : goal.offer-requires-clause-round_ready
 offer-requires-clause-round_ready c = (lent_may_offer (state_with c.args.cells.now c.args.r.now) c.requires c.args.f c.index-at.result c.index-at.ensures c.flow_at-flow.result c.flow_at-flow.ensures).0
