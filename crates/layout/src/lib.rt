@@ -1,6 +1,7 @@
 // Where the flows and the line of a state lie: in one array of bytes, so that a caller can lend the whole of it and a call changes in place what it
 // concerns. First, for each flow, the sizes of its waiting packets; then, for each flow, its other numbers; then the line. No user calls these functions.
-// The bytes are a slice whose length is asked, and no array: those that C lends are a part of an image.
+// The bytes are a slice whose length is asked, and no array: those that C lends are a part of an image. A flow's number is asked to be in range and is no type of
+// its own, since `turns::whose` answers for any round.
 #![tactic(auto)]
 
 ghost use Rattle.std.specs.Prelude.{◌≡◌, ◌≤◌, ◌<◌, ◌+◌, length, take, drop};

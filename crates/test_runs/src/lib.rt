@@ -13,7 +13,7 @@ const CALLS_TO_A_LINE: u32 = 1000;
 
 // A scheduler of one layer, with the buffers that its calls are lent.
 pub trait Layer {
-    // Makes a call, and takes in what it replies.
+    // Makes a call, and takes in what it replies. Each layer matches the kinds itself: its calls are lent other buffers.
     fn make(&mut self, call: &Call, tally: &mut Tally);
 
     // The buffer that is folded before each line.

@@ -51,7 +51,7 @@ fn agrees<R: Files>(rt: &R, name: &[u8]) -> Option<bool> {
     Some(check::same(&out[..written], &recorded[..end]))
 }
 
-// How many bytes the file of this name and ending has, read into the buffer.
+// How many bytes the file of this name and ending has, read into the buffer. The sheet reads a file so too; a function for these three lines would be no plainer.
 fn contents<R: Files>(rt: &R, name: &[u8], ending: &[u8], buffer: &mut [u8]) -> Option<usize>
     ensures { IfSome result (λ n. LieAtStart n buffer.new) }
 {
