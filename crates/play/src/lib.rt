@@ -32,7 +32,7 @@ pub const LOG_LIMIT: usize = INPUT_LIMIT / 8;
 pub struct BadLine(pub usize);
 
 // What a replay gives beside what it put into its buffers: how many bytes it printed, how many numbers it noted, and how it ended: at the end of its input,
-// or in a bad line.
+// or in a bad line. The two places are told, as their pages are gone with their loans of the buffers.
 #[derive(Clone, Copy)]
 pub struct Told {
     pub written: usize,
