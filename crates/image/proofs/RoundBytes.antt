@@ -1,6 +1,6 @@
 -- The round's numbers, where they lie behind the bytes of a state: how many bytes they take, that they are read again as they were laid, and that the
 -- code's stores lay them.
-use Prim.Native.Nat.{ℕ, zero, suc, ◌+◌, ◌-◌, ◌/◌, ◌%◌, ◌<◌}
+use Prim.Native.Nat.{ℕ, suc, ◌+◌, ◌/◌, ◌%◌, ◌<◌}
 use mathlib.Core.Path.{◌≡◌, refl, ap, ap₂, sym, ◌∙◌}
 use mathlib.Core.List.{List, ◌∷◌, ◌++◌, append-nil}
 use native.Mathlib.Omega.{arith}
@@ -74,16 +74,6 @@ pub pair_stored : (image : List ℕ) (at n : ℕ)
     → set (set image at (n % byte_limit)) (at + 1) (n / byte_limit % byte_limit) ≡ sets image at (digits pair_room n)
 unfolding digits
 pair_stored image at n = ap (λ (k : ℕ). set (set image at (n % byte_limit)) k (n / byte_limit % byte_limit)) (add-one at)
-
--- A turn as the code takes it from its bytes.
-pub no_turn_from : (f allowed sent : ℕ) → f ≡ 0 → NoTurn ≡ turn_from f allowed sent
-unfolding turn_from
-no_turn_from f allowed sent e = sym (ap (λ (n : ℕ). turn_from n allowed sent) e)
-
-pub turn_from_one_more : (f allowed sent : ℕ) → (f ≡ 0 → ⊥) → Turn (f - 1) allowed sent ≡ turn_from f allowed sent
-unfolding turn_from
-turn_from_one_more zero allowed sent some = absurd (some refl)
-turn_from_one_more (suc f) allowed sent some = ap (λ (n : ℕ). Turn n allowed sent) (omega arith)
 
 -- Its bytes are stored in three runs: the flow's, the allowance's and those of what was sent.
 pub turn_stored : (image : List ℕ) (f allowed sent : ℕ) {first then : List ℕ} → first ≡ sets (set image (cells_length + 6) f) (cells_length + 7) (digits pair_room allowed)
