@@ -14,7 +14,9 @@ fn number<R: Env>(rt: &R, i: usize, most: usize) -> Option<usize>
 }
 
 // The only argument: how many turns.
-pub fn turns<R: Env>(rt: &R) -> Option<usize> {
+pub fn turns<R: Env>(rt: &R) -> Option<usize>
+    ensures { IfSome result (λ n. (0 < n) × (n ≤ 999_999_999_999)) }
+{
     if arguments::count(rt) != 2 {
         return None;
     }
@@ -23,7 +25,7 @@ pub fn turns<R: Env>(rt: &R) -> Option<usize> {
 
 // The only two arguments: how many flows or bytes, from 1 to `most`, and how many turns.
 pub fn size_and_turns<R: Env>(rt: &R, most: usize) -> Option<(usize, usize)>
-    ensures { IfSome result (λ r. (0 < r.0) × (r.0 ≤ most)) }
+    ensures { IfSome result (λ r. (0 < r.0) × (r.0 ≤ most) × (0 < r.1) × (r.1 ≤ 999_999_999_999)) }
 {
     if arguments::count(rt) != 3 {
         return None;

@@ -13,7 +13,7 @@ use steps::RoundCell;
 
 pub mod replies;
 
-// What C reads as a reply.
+// What C reads as a reply. Numbers only, since an exported function gives no enum: `kind` is a `replies::Kind`, and `refusal` is a `model::Refusal` or 0.
 #[repr(C)]
 #[derive(Clone, Copy, Default)]
 pub struct HbReply {

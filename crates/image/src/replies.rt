@@ -7,7 +7,7 @@ use crate::HbReply;
 use model::{Refusal, Reply};
 use steps::Place;
 
-// What a reply is. C reads the number, an exported function giving no enum, so HbReply has it as a u16.
+// What a reply is. HbReply has its number, a u16, since an exported function gives C no enum.
 #[derive(Clone, Copy)]
 pub enum Kind {
     Done = 0,

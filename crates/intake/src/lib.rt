@@ -11,7 +11,7 @@ pub fn whole<R: Read>(source: &mut R, buffer: &mut [u8]) -> io::Result<usize>
     ensures { Within result buffer.new }
 {
     let mut at = 0;
-    // no plainer: std's `read_to_end` wants the heap, and its `read_exact` tells no short source from a failed read
+    // std's `read_to_end` wants the heap, and its `read_exact` does not say how many bytes a short source had
     while at < buffer.len() {
         let more = source.read(&mut buffer[at..])?;
         if more == 0 {

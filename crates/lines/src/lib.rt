@@ -30,7 +30,7 @@ const LARGEST: usize = 65_535;
 const MOST_DIGITS: usize = 5;
 
 // The line at a place: an event and a line feed, with the next line's place. None where the line is bad.
-// Slice and place are two parameters here, since document 01's struct of the two is the reader's, thin over a covered line parser.
+// Slice and place are two parameters here, since document 01 puts the struct of the two in the reader, which only calls this parser.
 #[tactic(auto, unfolding(crate::specs::Line::line_at))]
 pub fn line_at(input: &[u8], at: usize) -> Option<(Event, usize)>
     ensures { result ≡ line_at input.now at }

@@ -27,7 +27,7 @@ pub const OUTPUT_LIMIT: usize = 4 * INPUT_LIMIT;
 // A log of so many numbers has room for the departures of any input.
 pub const LOG_LIMIT: usize = INPUT_LIMIT / 8;
 
-// A line that is none of the three, by its number; 0 where the input is too long.
+// A line that is no event, by its number; 0 where the input is too long.
 #[derive(Clone, Copy, Debug, PartialEq, Eq)]
 pub struct BadLine(pub usize);
 

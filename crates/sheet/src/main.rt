@@ -138,7 +138,8 @@ fn judge<R: Env + Files>(
     week.with_site(events, lines, output, printed)
 }
 
-// How many bytes the file has that an argument names, read into the buffer.
+// How many bytes the file has that an argument names, read into the buffer. `test_vectors` reads a file so too; a function for these three lines would be no
+// plainer.
 fn contents<R: Env + Files>(rt: &R, i: usize, buffer: &mut [u8]) -> Option<usize>
     ensures { IfSome result (λ n. LieAtStart n buffer.new) }
 {

@@ -43,7 +43,8 @@ fn share(page: &mut Page<'_, u8>, sent: Share)
     page.push(b'\n');
 }
 
-// The line of a site that is left out, or that ended in a bad line, with the name of its output's file.
+// The line of a site that is left out, or that ended in a bad line, with the name of its output's file. The last two cases differ in a word; a function for
+// them would be no plainer.
 pub fn remark(page: &mut Page<'_, u8>, site: usize, verdict: Verdict, name: &[u8])
     ensures { Puts (remark_text site verdict name.now) page.old page.new }
 {

@@ -1,4 +1,4 @@
-// What the steps do to one flow.
+// What the steps do to one flow. Why most ask for a flow that is ready, `round` says.
 ghost use Rattle.std.specs.Prelude.{◌≡◌, ◌≤◌, ◌<◌, ◌-◌, ◌^◌};
 ghost use Rattle.model.specs.Limits.{size_limit, queue_limit};
 ghost use Rattle.model.specs.Steps.{packet_joined, surplus_cleared, first_size, first_left, excess_kept};

@@ -13,7 +13,7 @@ pub mod round;
 pub const LINE_ROOM: usize = FLOW_LIMIT + 1;
 
 // One flow. Weight 0 says that it is not open, as the model has it. The sizes of its waiting packets, each less one so that 256 fits a byte, are the digits of
-// one number in base 256, the first packet's lowest, and no list: so the first packet leaves by one division.
+// one number in base 256, the first packet's lowest, and no list, which would want the heap: so the first packet leaves by one division.
 #[derive(Clone, Copy)]
 pub struct FlowCell {
     pub weight: u16,

@@ -15,8 +15,7 @@ fn start(f: usize, k: usize) -> usize
     SIZE_LIMIT * (QUEUE_LIMIT as usize * f + k)
 }
 
-// Writes a packet in slot k of flow f. A `Place` would bring a second length beside the packet's; and no place keeps these bounds, since that of a flow in no
-// sound state may be asked for.
+// Writes a packet in slot k of flow f. A `Place` would bring a second length beside the packet's.
 pub fn write(store: &mut [u8], f: usize, k: usize, packet: &[u8])
     requires whole_store { length store.old ≡ store_length }
     requires flow_in_range { f < flow_limit }
@@ -28,7 +27,8 @@ pub fn write(store: &mut [u8], f: usize, k: usize, packet: &[u8])
     copy_in(&mut store[at..], packet);
 }
 
-// Copies the n bytes of slot k of flow f to the start of out.
+// Copies the n bytes of slot k of flow f to the start of out. Three numbers and no `Place`, as each bound is asked of one of them: a place is also told of flows in
+// no sound state, and so keeps none.
 pub fn read(store: &[u8], f: usize, k: usize, n: usize, out: &mut [u8])
     requires whole_store { length store.now ≡ store_length }
     requires flow_in_range { f < flow_limit }

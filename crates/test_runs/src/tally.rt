@@ -80,8 +80,9 @@ impl Tally {
     pub fn burst(&mut self, count: Result<usize, Refusal>) {
         self.answered(count, Said::Burst);
         if let Ok(n) = count {
-            self.sum.fold((n % 256) as u8);
-            self.sum.fold((n / 256 % 256) as u8);
+            let [low, high, ..] = n.to_le_bytes();
+            self.sum.fold(low);
+            self.sum.fold(high);
         }
     }
 }

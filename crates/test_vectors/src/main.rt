@@ -16,7 +16,8 @@ use std::{io, str};
 const PATH_LIMIT: usize = 4_096;
 
 fn main(rt: HostRuntime) {
-    // the first argument is the program's own name; an index, since std's `env::args` wants the heap
+    // the first argument is the program's own name; an index, since std's `env::args` wants the heap, up to the first that is missing, since a count would ask
+    // for each twice
     for i in 1..usize::MAX {
         let mut name = [0u8; PATH_LIMIT];
         match rt.arg(i, &mut name) {

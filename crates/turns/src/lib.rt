@@ -72,8 +72,8 @@ fn begin(line: &mut [u8], r: &mut RoundCell, x: FlowCell)
     }
 }
 
-// Steps 2 to 6. A flow whose turn is open has surplus 0 already, so it can be cleared whether its turn is opened here or was open. Two callers have it
-// inlined, which the compiler would not do unasked.
+// Steps 2 to 6. A flow whose turn is open has surplus 0 already, so it can be cleared whether its turn is opened here or was open. `in_place::depart`
+// has it inlined, which the compiler would not do unasked.
 #[inline]
 pub fn visit(line: &mut [u8], r: &mut RoundCell, x: &mut FlowCell) -> Reply
     requires { MayVisit (in_place line.old r.old) x.old }
