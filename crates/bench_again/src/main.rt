@@ -2,10 +2,10 @@
 #![tactic(auto)]
 
 use bench_loops::sums::Check;
-use bench_loops::{SENT, sums, words};
+use bench_loops::{SENT, Sizes, sums, words};
 
 fn again(n: usize) -> Check {
-    let full = bench_loops::filled(bench_loops::size);
+    let full = bench_loops::filled(Sizes::Mixed);
     let mut list = [0u8; SENT];
     let mut check = Check::new(0);
     for _ in 0..n {

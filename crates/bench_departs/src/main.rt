@@ -2,11 +2,10 @@
 #![tactic(auto)]
 
 use bench_loops::sums::Check;
-use bench_loops::{SENT, sums, words};
-use model::SIZE_LIMIT;
+use bench_loops::{SENT, Sizes, sums, words};
 
 fn departs(n: usize) -> Check {
-    let full = bench_loops::filled(|_| SIZE_LIMIT);
+    let full = bench_loops::filled(Sizes::Largest);
     let mut check = Check::new(0);
     for _ in 0..n {
         let mut state = full;

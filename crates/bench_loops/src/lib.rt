@@ -2,7 +2,10 @@
 // Each program has a main and loops of its own: a loop that is handed a closure, or shared, is inlined otherwise than the one that is to be counted.
 #![tactic(auto)]
 
-use model::{FLOW_LIMIT, QUEUE_LIMIT, Reply};
+ghost use Rattle.order.specs.Promised.{DepartGives};
+ghost use Rattle.steps.specs.declared.Place.{Place};
+
+use model::{FLOW_LIMIT, QUEUE_LIMIT, Reply, SIZE_LIMIT};
 use order::State;
 
 pub mod sums;
@@ -29,19 +32,30 @@ pub fn opened(flows: usize) -> State {
 }
 
 // One departure. A function of its own, with no loop in it: so the compiler makes it on the state that it is lent.
-pub fn depart(state: &mut State) -> Reply {
+pub fn depart(state: &mut State) -> Reply
+    ensures { (from : Place) × DepartGives state.old (record { state = state.new; reply = record { reply = result; from = from } }) }
+{
     let left = state.depart();
     *state = left.state;
     left.reply.reply
 }
 
+// The sizes of the packets in a full state.
+#[derive(Clone, Copy)]
+pub enum Sizes {
+    Mixed,
+    Largest,
+}
+
 // Every flow open, with eight packets waiting in each, of these sizes.
-pub fn filled<F: Fn(usize) -> usize>(size: F) -> State
-    requires { F.IsAlwaysCallable size }
-{
+pub fn filled(sizes: Sizes) -> State {
     let mut state = opened(FLOW_LIMIT);
     for k in 0..FULL {
-        state = state.offer(k / QUEUE_LIMIT as usize, size(k)).state;
+        let size = match sizes {
+            Sizes::Mixed => size(k),
+            Sizes::Largest => SIZE_LIMIT,
+        };
+        state = state.offer(k / QUEUE_LIMIT as usize, size).state;
     }
     state
 }

@@ -4,10 +4,10 @@ ghost use Rattle.std.specs.Prelude.{◌<◌, ◌≤◌, IfSome};
 use std::env::Env;
 
 // The longest run that can be asked for.
-const RUN_LIMIT: usize = 999999999999;
+pub const RUN_LIMIT: usize = 999999999999;
 
 // An argument that is a number from 1 to `most`.
-fn number<R: Env>(rt: &R, i: usize, most: usize) -> Option<usize>
+pub fn number<R: Env>(rt: &R, i: usize, most: usize) -> Option<usize>
     ensures { IfSome result (λ n. (0 < n) × (n ≤ most)) }
 {
     arguments::number(rt, i, &mut [0; 20]).filter(|&n| 0 < n && n <= most)

@@ -5,7 +5,7 @@ ghost use Rattle.std.specs.Prelude.{◌≡◌, ◌∷◌, ◌++◌, ◌≤◌, �
 ghost use Rattle.std.proofs.lemmas.List.Edits.{sets};
 ghost use Rattle.layout.specs.Bytes.{digits};
 ghost use Rattle.layout.specs.Layout.{cells_length};
-ghost use Rattle.image.specs.Image.{pair_room, pair_in, TurnFits, turn_from, round_in, round_bytes};
+ghost use Rattle.image.specs.Image.{pair_room, pair_in, image_length, TurnFits, turn_from, round_in, round_bytes};
 
 use layout::CELLS;
 use model::Serving;
@@ -75,7 +75,8 @@ fn turn_of(f: u8, allowed: u16, sent: u16) -> Serving
     }
 }
 
-pub fn round_at(image: &[u8; IMAGE]) -> RoundCell
+pub fn round_at(image: &[u8]) -> RoundCell
+    requires { length image.now ≡ image_length }
     ensures { result ≡ round_in image.now }
 {
     RoundCell {
@@ -88,7 +89,8 @@ pub fn round_at(image: &[u8; IMAGE]) -> RoundCell
 }
 
 #[tactic(auto, using(crate::proofs::RoundBytes::turn_stored))]
-fn put_turn(image: &mut [u8; IMAGE], f: u8, allowed: u16, sent: u16)
+fn put_turn(image: &mut [u8], f: u8, allowed: u16, sent: u16)
+    requires { length image.old ≡ image_length }
     ensures { image.new ≡ sets image.old (cells_length + 6) (f ∷ digits pair_room allowed ++ digits pair_room sent) }
 {
     image[TURN] = f;
@@ -96,8 +98,9 @@ fn put_turn(image: &mut [u8; IMAGE], f: u8, allowed: u16, sent: u16)
     put_pair(image, SENT, sent);
 }
 
-pub fn put_round(image: &mut [u8; IMAGE], r: RoundCell)
-    requires { TurnFits r.turn }
+pub fn put_round(image: &mut [u8], r: RoundCell)
+    requires image_len { length image.old ≡ image_length }
+    requires turn_fits { TurnFits r.turn }
     ensures { image.new ≡ take cells_length image.old ++ round_bytes r }
 {
     image[LENGTH] = r.length;

@@ -17,9 +17,10 @@ pub fn open(cells: &mut [u8], r: RoundCell, f: usize, weight: usize) -> Result<(
 {
     let at = ask::index(f);
     let mut flow = layout::flow_at(cells, at);
-    ask::open(&mut flow, f, weight)?;
+    let reply = ask::open(&mut flow, f, weight);
+    // Where it is refused the flow is stored as it was read: a branch on the reply here would cost what C is told a copy.
     layout::put_opened(cells, at, flow);
-    Ok(())
+    reply
 }
 
 // Tells where the packet lies that is accepted.

@@ -71,15 +71,28 @@ impl State {
     pub fn offer(mut self, f: usize, size: usize) -> Outcome<State, Result<Place, Refusal>>
         ensures { OfferGives self f size result }
     {
-        let reply = in_place::offer(&mut self.cells, &mut self.round, f, size);
+        let reply = self.take_offer(f, size);
         Outcome { state: self, reply }
     }
 
     pub fn depart(mut self) -> Outcome<State, Departed>
         ensures { DepartGives self result }
     {
-        let reply = in_place::depart(&mut self.cells, &mut self.round);
+        let reply = self.make_departure();
         Outcome { state: self, reply }
+    }
+
+    // Offer and departure of a state that is lent, for the layer above: it hands its own struct back, and no state is copied between the two.
+    pub fn take_offer(&mut self, f: usize, size: usize) -> Result<Place, Refusal>
+        ensures { OfferGives self.old f size (record { state = self.new; reply = result }) }
+    {
+        in_place::offer(&mut self.cells, &mut self.round, f, size)
+    }
+
+    pub fn make_departure(&mut self) -> Departed
+        ensures { DepartGives self.old (record { state = self.new; reply = result }) }
+    {
+        in_place::depart(&mut self.cells, &mut self.round)
     }
 
     // Up to n departures, whose flow numbers go into the list from its start; tells how many there were.

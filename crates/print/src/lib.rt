@@ -23,6 +23,14 @@ impl<'a, T: Copy> Page<'a, T> {
         Page { out, past: 0 }
     }
 
+    // The page over a buffer that is written up to a place already. Beyond the buffer's end nothing is put.
+    pub fn written_up_to(out: &'a mut [T], past: usize) -> Self
+        ensures same_buffer { lent result ≡ out.entry.ghost_name }
+        ensures written { stands_for result ≡ page out.old past }
+    {
+        Page { out, past }
+    }
+
     // The place just past what is written.
     pub fn past(&self) -> usize
         ensures { result ≡ (stands_for self.now).past }

@@ -151,6 +151,11 @@ module _ (site : Site) (S : SoundSite site) where
       unfolding scheduler_of order.offered_as
       placed g = ap (λ (q : Outcome State (Result Place Refusal)). q.reply) g.outcome
 
+      -- What is stored where the order layer tells is what the call stores.
+      stored_as_told : {a : Outcome State (Result Place Refusal)} → order.OfferGives site.order f (length packet) a → (reply : Result Place Refusal) → a.reply ≡ reply
+          → stored_at reply ≡ (store_offer s f packet store).store
+      stored_as_told g reply e = ap stored_at (sym e ∙ placed g) ∙ written_there answer ∙ sym (offer_writes s f packet store all)
+
       -- Accepted: the packet is written in the slot that the flow's next packet takes.
       module _ (a : Outcome State (Result Place Refusal)) (g : order.OfferGives site.order f (length packet) a) (p : Place) (r : a.reply ≡ Ok p) where
         accepted : answer ≡ Ok tt
@@ -173,15 +178,15 @@ module _ (site : Site) (S : SoundSite site) where
         pub packet_small : length packet ≤ size_limit
         packet_small = (may_offer f (length packet) (flow_at s f) accepted).size_small
 
+        as_long : p.size ≡ length packet
+        as_long = ap (λ (q : Place). q.size) place_is
+
         pub stored_there : (after : List ℕ) → after ≡ written store p.flow p.slot packet
             → OfferGives site f packet store after (record { state = record { order = a.state }; reply = Ok tt })
         stored_there after w =
             record {
               outcome = outcome_is g (Ok tt) (sym accepted);
-              stored =
-                  w
-                  ∙ ap (λ (q : Place). written store q.flow q.slot packet) place_is
-                  ∙ sym (offer_writes s f packet store all ∙ ap (λ (a : Answer). if_ok a (written store f (next_slot_of (flow_at s f)) packet) store) accepted);
+              stored = w ∙ ap (written store p.flow p.slot) (sym (take_all p.size packet (omega (arith, as_long)))) ∙ stored_as_told g (Ok p) r;
               sound = g.sound;
             }
 
@@ -191,7 +196,7 @@ module _ (site : Site) (S : SoundSite site) where
       refused_there a g r e =
           record {
             outcome = outcome_is g (Err r) (sym refused);
-            stored = sym (offer_writes s f packet store all ∙ ap (λ (a : Answer). if_ok a (written store f (next_slot_of (flow_at s f)) packet) store) refused);
+            stored = stored_as_told g (Err r) e;
             sound = g.sound;
           }
         where

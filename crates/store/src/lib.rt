@@ -6,7 +6,7 @@ ghost use Rattle.store.specs.Site.{Site as Parts};
 ghost use Rattle.store.specs.Promised.{SoundSite, NewGives, OpenGives, OfferGives, DepartGives};
 
 use model::{Outcome, Refusal, Reply};
-use order::State;
+use order::{Departed, State};
 use std::marker::Model;
 
 mod bytes;
@@ -60,57 +60,47 @@ impl Site {
         }
     }
 
-    // Writes the packet's bytes in the slot that the flow's next packet takes.
     pub fn offer(
-        self,
+        mut self,
         f: usize,
         packet: &[u8],
         store: &mut [u8],
     ) -> Outcome<Site, Result<(), Refusal>>
         ensures { OfferGives self f packet.now store.old store.new result }
     {
-        let order = self.order;
-        if let Err(refusal) = lengths::may_offer(store) {
-            return Outcome {
-                state: self,
-                reply: Err(refusal),
-            };
-        }
-        let Outcome { state, reply } = order.offer(f, packet.len());
-        let order = state;
-        match reply {
-            Ok(place) => {
-                slots::write(store, place.flow, place.slot, packet);
-                Outcome {
-                    state: Site { order },
-                    reply: Ok(()),
-                }
-            }
-            Err(refusal) => Outcome {
-                state: Site { order },
-                reply: Err(refusal),
-            },
-        }
+        let reply = self.take_offer(f, packet, store);
+        Outcome { state: self, reply }
+    }
+
+    pub fn depart(mut self, store: &[u8], out: &mut [u8]) -> Outcome<Site, Reply>
+        ensures { DepartGives self store.now out.old out.new result }
+    {
+        let reply = self.make_departure(store, out);
+        Outcome { state: self, reply }
+    }
+
+    // An offer to a site that is lent, so that it is handed back in one place. Writes the packet's bytes in the slot that the flow's next packet takes.
+    fn take_offer(&mut self, f: usize, packet: &[u8], store: &mut [u8]) -> Result<(), Refusal>
+        ensures { OfferGives self.old f packet.now store.old store.new (record { state = self.new; reply = result }) }
+    {
+        let order = &mut self.order;
+        lengths::may_offer(store)?;
+        let place = order.take_offer(f, packet.len())?;
+        slots::write(store, place.flow, place.slot, packet);
+        Ok(())
     }
 
     // Copies the departing packet's bytes to the start of the outgoing buffer.
-    pub fn depart(self, store: &[u8], out: &mut [u8]) -> Outcome<Site, Reply>
-        ensures { DepartGives self store.now out.old out.new result }
+    fn make_departure(&mut self, store: &[u8], out: &mut [u8]) -> Reply
+        ensures { DepartGives self.old store.now out.old out.new (record { state = self.new; reply = result }) }
     {
-        let order = self.order;
+        let order = &mut self.order;
         if let Err(refusal) = lengths::may_depart(store, out) {
-            return Outcome {
-                state: self,
-                reply: Reply::Refused(refusal),
-            };
+            return Reply::Refused(refusal);
         }
-        let Outcome { state, reply } = order.depart();
-        // Where nothing departs the size is 0, and nothing is copied: a branch on the reply here would cost a copy of the site.
-        let from = reply.from;
+        let Departed { reply, from } = order.make_departure();
+        // Where nothing departs the size is 0, and nothing is copied.
         slots::read(store, from.flow, from.slot, from.size, out);
-        Outcome {
-            state: Site { order: state },
-            reply: reply.reply,
-        }
+        reply
     }
 }

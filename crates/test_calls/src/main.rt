@@ -16,8 +16,8 @@ fn main(rt: HostRuntime) {
         && let Some(seed) = argument(&rt, 1)
         && let Some(calls) = argument(&rt, 2)
     {
-        test_runs::run(&rt, "order", seed, calls, &mut Sizes::new());
-        test_runs::run(&rt, "store", seed, calls, &mut Bytes::new());
+        test_runs::run(&rt, b"order", seed, calls.into(), &mut Sizes::new());
+        test_runs::run(&rt, b"store", seed, calls.into(), &mut Bytes::new());
         short_row(&rt);
     } else {
         let _ = eprintln!(rt; "usage: test_calls SEED CALLS, two numbers from 0 to 4294967295");

@@ -19,9 +19,11 @@ pub struct Sizes {
 
 impl Sizes {
     pub fn new() -> Sizes {
+        let mut list = [0; LIST_ROOM];
+        rising(&mut list, 0, 5);
         Sizes {
             state: State::new(),
-            list: rising(0, 5),
+            list,
         }
     }
 }

@@ -82,8 +82,8 @@ impl Draws {
     }
 
     // The call that comes after so many others. Phases of 256 calls differ in how many flows there are to draw from.
-    pub fn call(&mut self, before: u32) -> Call {
-        let phase = u64::from(self.seed) + u64::from(before / 256);
+    pub fn call(&mut self, before: u64) -> Call {
+        let phase = u64::from(self.seed) + before / 256;
         let r = self.draw(2048);
         let flow = self.draw((1 + phase % 34 * 7 % 34) as u32);
         let flow = self.far(flow);

@@ -9,7 +9,7 @@ pub mod buffers;
 pub mod draws;
 pub mod tally;
 
-const CALLS_TO_A_LINE: u32 = 1000;
+const CALLS_TO_A_LINE: u64 = 1000;
 
 // A scheduler of one layer, with the buffers that its calls are lent.
 pub trait Layer {
@@ -22,7 +22,7 @@ pub trait Layer {
 
 // Makes the calls on a layer. After every 1,000 and after the last a line is printed, and then how often each reply was given. A write that fails is
 // passed over.
-pub fn run<R: Print, L: Layer>(rt: &R, part: &str, seed: u32, calls: u32, layer: &mut L) {
+pub fn run<R: Print, L: Layer>(rt: &R, part: &[u8], seed: u32, calls: u64, layer: &mut L) {
     let mut draws = Draws::new(seed);
     let mut tally = Tally::new();
     for before in 0..calls {
@@ -30,10 +30,12 @@ pub fn run<R: Print, L: Layer>(rt: &R, part: &str, seed: u32, calls: u32, layer:
         layer.make(&draws.call(before), &mut tally);
         if n == calls || n % CALLS_TO_A_LINE == 0 {
             tally.fold_all(layer.kept());
-            let _ = println!(rt; "{part} calls={n} check={}", tally.check());
+            let _ = rt.write_all(part);
+            let _ = println!(rt; " calls={n} check={}", tally.check());
         }
     }
-    let _ = print!(rt; "{part} replies");
+    let _ = rt.write_all(part);
+    let _ = print!(rt; " replies");
     for count in tally.counts() {
         let _ = print!(rt; " {count}");
     }

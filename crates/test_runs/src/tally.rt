@@ -14,9 +14,9 @@ pub enum Said {
 }
 
 // A count for each reply's number.
-const COUNTS: usize = Said::Burst as usize + 1;
+pub const COUNTS: usize = Said::Burst as usize + 1;
 
-#[derive(Drop)]
+#[derive(Clone, Copy)]
 pub struct Tally {
     sum: Checksum<16777619, 4294967296>,
     counts: [u64; COUNTS],
@@ -44,7 +44,7 @@ impl Tally {
     }
 
     // A reply's number is folded first.
-    fn take_in(&mut self, number: u8) {
+    pub fn take_in(&mut self, number: u8) {
         self.sum.fold(number);
         if let Some(count) = self.counts.get_mut(number as usize) {
             *count = count.wrapping_add(1);

@@ -26,10 +26,14 @@ pub struct Bytes {
 
 impl Bytes {
     pub fn new() -> Bytes {
+        let mut store = [0; STORE_ROOM];
+        staggered(&mut store);
+        let mut out = [0; OUT_ROOM];
+        rising(&mut out, 0, 3);
         Bytes {
             site: Site::new(),
-            store: staggered(),
-            out: rising(0, 3),
+            store,
+            out,
         }
     }
 }
@@ -48,7 +52,8 @@ impl Layer for Bytes {
                 opened.state
             }
             Kind::Offer => {
-                let packet = rising::<PACKET_ROOM>(call.first, call.step);
+                let mut packet = [0; PACKET_ROOM];
+                rising(&mut packet, call.first, call.step);
                 let offered = site.offer(
                     call.flow,
                     lent(&packet, call.length),

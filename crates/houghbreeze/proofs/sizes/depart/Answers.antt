@@ -3,8 +3,8 @@ use Rattle.image.proofs.ImageLaws.{turn_fits}
 use Rattle.houghbreeze.proofs.SizesLaws.{depart_passes}
 use Rattle.houghbreeze.proofs.sizes.depart.Goals as goal
 
-pub put_round-requires : goal.put_round-requires
-put_round-requires c = turn_fits _ c.depart-reply.ensures.sound
+pub put_round-requires-clause-turn_fits : goal.put_round-requires-clause-turn_fits
+put_round-requires-clause-turn_fits c = turn_fits _ c.depart-reply.ensures.sound
 
 pub returns : goal.returns
 returns c =
