@@ -3,33 +3,26 @@
 
 use order::State;
 use test_runs::Layer;
-use test_runs::buffers::{lent_mut, rising};
+use test_runs::buffers::lent_mut;
 use test_runs::draws::{Call, Kind};
 use test_runs::tally::{Said, Tally};
 
-// The list that bursts write in.
-const LIST_ROOM: usize = 272;
-
-// A state, and the list, of which bursts are lent the first bytes.
-#[derive(Drop)]
+// A state. Bursts are lent the first bytes of a list.
+#[derive(Clone, Copy)]
 pub struct Sizes {
     state: State,
-    list: [u8; LIST_ROOM],
 }
 
 impl Sizes {
     pub fn new() -> Sizes {
-        let mut list = [0; LIST_ROOM];
-        rising(&mut list, 0, 5);
         Sizes {
             state: State::new(),
-            list,
         }
     }
 }
 
 impl Layer for Sizes {
-    fn make(&mut self, call: &Call, tally: &mut Tally) {
+    fn make(&mut self, call: &Call, list: &mut [u8], _: &mut [u8], tally: &mut Tally) {
         let state = self.state;
         self.state = match call.kind {
             Kind::Reset => {
@@ -52,15 +45,11 @@ impl Layer for Sizes {
                 left.state
             }
             Kind::Burst => {
-                let sent = state.burst(call.departures, lent_mut(&mut self.list, call.list));
+                let sent = state.burst(call.departures, lent_mut(list, call.list));
                 tally.burst(sent.reply);
-                tally.fold_all(&self.list);
+                tally.fold_all(list);
                 sent.state
             }
         };
-    }
-
-    fn kept(&self) -> &[u8] {
-        &self.list
     }
 }
