@@ -18,11 +18,12 @@ pub enum Kind {
 }
 
 // What a reply's kind does not have is 0.
-fn bare(kind: Kind) -> HbReply
-    ensures { result ≡ reply_of (number_of_kind kind) 0 }
+fn bare(kind: Kind, refusal: u16) -> HbReply
+    ensures { result ≡ reply_of (number_of_kind kind) refusal }
 {
     HbReply {
         kind: kind as u16,
+        refusal,
         ..HbReply::default()
     }
 }
@@ -30,20 +31,25 @@ fn bare(kind: Kind) -> HbReply
 pub fn refused(refusal: Refusal) -> HbReply
     ensures { result ≡ reply_of refused_kind (number_of refusal) }
 {
-    HbReply {
-        refusal: refusal as u16,
-        ..bare(Kind::Refused)
+    bare(Kind::Refused, refusal as u16)
+}
+
+// The kind of an answer, and the number of its refusal or 0.
+fn kind_of(answer: Result<(), Refusal>) -> (Kind, u16)
+    ensures { reply_of (number_of_kind result.0) result.1 ≡ of_answer answer 0 }
+{
+    match answer {
+        Ok(()) => (Kind::Done, 0),
+        Err(refusal) => (Kind::Refused, refusal as u16),
     }
 }
 
-// The answer of a call that tells no place.
+// The answer of a call that tells no place. The reply is made once: where two replies meet, one is copied.
 pub fn of_answer(answer: Result<(), Refusal>) -> HbReply
     ensures { result ≡ of_answer answer 0 }
 {
-    match answer {
-        Ok(()) => bare(Kind::Done),
-        Err(refusal) => refused(refusal),
-    }
+    let (kind, refusal) = kind_of(answer);
+    bare(kind, refusal)
 }
 
 pub fn of_offer(offer: Result<Place, Refusal>) -> HbReply
@@ -53,7 +59,7 @@ pub fn of_offer(offer: Result<Place, Refusal>) -> HbReply
     match offer {
         Ok(place) => HbReply {
             slot: place.slot as u16,
-            ..bare(Kind::Done)
+            ..bare(Kind::Done, 0)
         },
         Err(refusal) => refused(refusal),
     }
@@ -70,9 +76,9 @@ pub fn of_reply(reply: Reply, slot: usize) -> HbReply
             mark: sent.mark,
             allowance: sent.allowance,
             slot: slot as u16,
-            ..bare(Kind::Departure)
+            ..bare(Kind::Departure, 0)
         },
-        Reply::Idle => bare(Kind::Idle),
+        Reply::Idle => bare(Kind::Idle, 0),
         Reply::Refused(refusal) => refused(refusal),
     }
 }
@@ -84,7 +90,7 @@ pub fn of_count(count: Result<usize, Refusal>) -> HbReply
     match count {
         Ok(made) => HbReply {
             count: made as u16,
-            ..bare(Kind::Count)
+            ..bare(Kind::Count, 0)
         },
         Err(refusal) => refused(refusal),
     }

@@ -33,7 +33,7 @@ use Rattle.layout.proofs.Laws.{with_flow_length}
 use Rattle.order.specs.Encoding.{view, Sound, state_with}
 use Rattle.order.specs.Promised.{OpenGives, OfferGives, DepartGives, left_by}
 use Rattle.order.specs.State.{State}
-use Rattle.order.proofs.StateLaws.{round_of, round_of_sound, bytes_count, cell_ready, at_in_reach, may_visit, visit_seen, departed_gives, index_in_reach, opened_gives, may_offer_to, offered_gives, offer_refused_gives}
+use Rattle.order.proofs.StateLaws.{round_of, round_of_sound, bytes_count, cell_ready, at_in_reach, may_visit, visit_seen, departed_gives, index_in_reach, opened_gives, open_refused_gives, may_offer_to, offered_gives, offer_refused_gives}
 
 -- A state's bytes are lent whole.
 pub bytes_lent : (bytes : List ℕ) {r : RoundCell} → Sound (state_with bytes r) → length bytes ≡ cells_length
@@ -127,8 +127,15 @@ module _ (c : State) (S : Sound c) where
       pub may_put_opened : (length c.cells ≡ cells_length) × ((at < flow_limit) × ((y.weight < byte_limit) × (y.surplus < byte_limit)))
       may_put_opened = (bytes_count c S, (index_in_reach c S f at e, opened_small))
 
-      pub lent_opened_gives : OpenGives c f weight (left_by (with_opened c.cells at y) c.round a)
-      lent_opened_gives = opened_gives c S f at e weight y a (g ∙ ap (λ (z : FlowCell). opened_parts z f weight) k)
+      whole_flow : open_in_place y a ≡ opened_parts (flow_in c.cells at) f weight
+      whole_flow = g ∙ ap (λ (z : FlowCell). opened_parts z f weight) k
+
+    module _ (weight : ℕ) (y : FlowCell) where
+      pub lent_opened_gives : open_in_place y (Ok tt) ≡ opened_parts x f weight → OpenGives c f weight (left_by (with_opened c.cells at y) c.round (Ok tt))
+      lent_opened_gives g = opened_gives c S f at e weight y (whole_flow weight y (Ok tt) g)
+
+      pub lent_open_refused_gives : (r : Refusal) → open_in_place y (Err r) ≡ opened_parts x f weight → OpenGives c f weight (left_by c.cells c.round (Err r))
+      lent_open_refused_gives r g = open_refused_gives c S f at e weight y r (whole_flow weight y (Err r) g)
 
     module _ (size : ℕ) (then : RoundCell) (y : FlowCell) (line : List ℕ) where
       module _ (reply : Result Place Refusal) (g : offer_in_place line then y reply ≡ offered_parts (in_place (lent_line c.cells) c.round) x f size) where

@@ -24,7 +24,7 @@ use Rattle.model.specs.declared.Reply.{Reply}
 use Rattle.model.specs.declared.Serving.{Serving}
 use Rattle.model.specs.declared.Serving.TheVariants.{Turn}
 use Rattle.model.proofs.Departing.{visit_weight}
-use Rattle.model.proofs.Flows.{put_back, none_is_empty}
+use Rattle.model.proofs.Flows.{none_is_empty}
 use Rattle.model.proofs.Keeps.{new_keeps, opened_keeps, offered_keeps, departed_keeps}
 use Rattle.model.proofs.Standing.{InRange, TurnFacts, HeadFacts, in_range, room_for_another, turn_facts, head_facts, whose_in_reach}
 use Rattle.model.proofs.Choosing.{ok_has}
@@ -369,10 +369,10 @@ module _ (c : State) (S : Sound c) where
             sound = subst (λ (r : Outcome State Answer). Sound r.state) (sym e) (sound_of (opened (view c) f weight).state (opened_keeps (view c) f weight S.rules));
           }
 
-      passed_gives : (x : FlowCell) → open_in_place x (Ok tt) ≡ opened_parts (flow_in c.cells at) f weight
+      pub opened_gives : (x : FlowCell) → open_in_place x (Ok tt) ≡ opened_parts (flow_in c.cells at) f weight
           → OpenGives c f weight (left_by (with_opened c.cells at x) c.round (Ok tt))
       unfolding opened_parts view view_round opened answered_as unless_refused
-      passed_gives x g =
+      opened_gives x g =
           let passes : Ok tt ≡ open_answer f weight asked = ap (λ (k : OpenInPlace). k.answer) g in
           opened_outcome
           (ap₂ (λ (t : State) (a : Answer). record { state = t; reply = a })
@@ -382,27 +382,15 @@ module _ (c : State) (S : Sound c) where
           round_form passes)
           (answer_seen (open_answer f weight) (λ y h. no_such_flow _ h) asked (cell_seen at index_in_reach) (Ok tt) passes))
 
-      -- Refused: the flow is stored as it was read, so that the state is as it was.
-      open_refused_gives : (x : FlowCell) (k : Refusal) → open_in_place x (Err k) ≡ opened_parts (flow_in c.cells at) f weight
-          → OpenGives c f weight (left_by (with_opened c.cells at x) c.round (Err k))
-      unfolding opened_parts view view_round opened answered_as unless_refused
+      pub open_refused_gives : (x : FlowCell) (k : Refusal) → open_in_place x (Err k) ≡ opened_parts (flow_in c.cells at) f weight
+          → OpenGives c f weight (left_by c.cells c.round (Err k))
+      unfolding opened_parts opened answered_as unless_refused
       open_refused_gives x k g =
           let refuses : Err k ≡ open_answer f weight asked = ap (λ (k : OpenInPlace). k.answer) g in
           opened_outcome
           (ap₂ (λ (t : State) (a : Answer). record { state = t; reply = a })
-          (put_law (with_opened c.cells at x) at x (line_in c.cells) c.round asked (view c).round (stored_opened at index_in_reach x)
-          (ap (λ (q : OpenInPlace). q.flow) g ∙ ap (λ (a : Answer). encode_flow (if_ok a (open_flow weight) asked)) (sym refuses))
-          round_form
-          ∙ ap (λ (y : Flow). encode (put (view c) at y (view c).round)) (cell_seen at index_in_reach)
-          ∙ ap encode (put_back (view c) at)
-          ∙ sym S.form
-          ∙ refused_state (open_answer f weight) (λ y h. no_such_flow _ h) asked (cell_seen at index_in_reach) k _ refuses)
+          (refused_state (open_answer f weight) (λ y h. no_such_flow _ h) asked (cell_seen at index_in_reach) k _ refuses)
           (answer_seen (open_answer f weight) (λ y h. no_such_flow _ h) asked (cell_seen at index_in_reach) (Err k) refuses))
-
-      pub opened_gives : (x : FlowCell) (a : Answer) → open_in_place x a ≡ opened_parts (flow_in c.cells at) f weight
-          → OpenGives c f weight (left_by (with_opened c.cells at x) c.round a)
-      opened_gives x (Ok tt) g = passed_gives x g
-      opened_gives x (Err k) g = open_refused_gives x k g
 
     room_in_line : f < flow_limit → (flow_in c.cells at).waiting ≡ 0 → c.round.length < flow_limit
     unfolding view view_round

@@ -17,10 +17,9 @@ pub fn open(cells: &mut [u8], r: RoundCell, f: usize, weight: usize) -> Result<(
 {
     let at = ask::index(f);
     let mut flow = layout::flow_at(cells, at);
-    let reply = ask::open(&mut flow, f, weight);
-    // Where it is refused the flow is stored as it was read: a branch on the reply here would cost what C is told a copy.
+    ask::open(&mut flow, f, weight)?;
     layout::put_opened(cells, at, flow);
-    reply
+    Ok(())
 }
 
 // Tells where the packet lies that is accepted.
