@@ -5,7 +5,7 @@ use bench_loops::sums::Check;
 use bench_loops::{SENT, Sizes, sums, words};
 
 fn again(n: usize) -> Check {
-    let full = bench_loops::filled(Sizes::Mixed);
+    let full = bench_loops::filled_with(Sizes::Mixed);
     let mut list = [0u8; SENT];
     let mut check = Check::new(0);
     for _ in 0..n {

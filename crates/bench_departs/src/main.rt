@@ -5,7 +5,7 @@ use bench_loops::sums::Check;
 use bench_loops::{SENT, Sizes, sums, words};
 
 fn departs(n: usize) -> Check {
-    let full = bench_loops::filled(Sizes::Largest);
+    let full = bench_loops::filled_with(Sizes::Largest);
     let mut check = Check::new(0);
     for _ in 0..n {
         let mut state = full;

@@ -40,6 +40,17 @@ pub fn depart(state: &mut State) -> Reply
     left.reply.reply
 }
 
+// Every flow open, with eight packets waiting in each, of the sizes that a function gives, packet by packet.
+pub fn filled<F: Fn(usize) -> usize>(size: F) -> State
+    requires { F.IsAlwaysCallable size }
+{
+    let mut state = opened(FLOW_LIMIT);
+    for k in 0..FULL {
+        state = state.offer(k / QUEUE_LIMIT as usize, size(k)).state;
+    }
+    state
+}
+
 // The sizes of the packets in a full state.
 #[derive(Clone, Copy)]
 pub enum Sizes {
@@ -47,8 +58,8 @@ pub enum Sizes {
     Largest,
 }
 
-// Every flow open, with eight packets waiting in each, of these sizes.
-pub fn filled(sizes: Sizes) -> State {
+// The same, and nothing is asked, since the sizes are one of two kinds.
+pub fn filled_with(sizes: Sizes) -> State {
     let mut state = opened(FLOW_LIMIT);
     for k in 0..FULL {
         let size = match sizes {
@@ -58,4 +69,38 @@ pub fn filled(sizes: Sizes) -> State {
         state = state.offer(k / QUEUE_LIMIT as usize, size).state;
     }
     state
+}
+
+#[cfg(test)]
+mod tests {
+    use super::*;
+    use std::test::Fail;
+
+    // The first departures where each flow's packets have 1, 2, 3 bytes and so on, by document 01's steps: with the mark 0 a flow is allowed its weight.
+    const FIRST: [(u8, u16); 11] = [
+        (0, 1),
+        (1, 1),
+        (1, 2),
+        (2, 1),
+        (2, 2),
+        (3, 1),
+        (3, 2),
+        (3, 3),
+        (4, 1),
+        (5, 1),
+        (5, 2),
+    ];
+
+    #[test]
+    fn filled_by_a_function() -> Result<(), Fail> {
+        let mut state = filled(|k| 1 + k % QUEUE_LIMIT as usize);
+        for (flow, size) in FIRST {
+            let expected = match depart(&mut state) {
+                Reply::Departure(sent) => sent.flow == flow && sent.size == size,
+                Reply::Idle | Reply::Refused(_) => false,
+            };
+            expected.then_some(()).ok_or("another departs")?;
+        }
+        Ok(())
+    }
 }

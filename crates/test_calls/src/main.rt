@@ -4,19 +4,10 @@
 
 use std::env::Env;
 use store::{STORE_LENGTH, Site};
-use test_order::Sizes;
+use test_order::{BorrowingSizes, LIST_ROOM};
 use test_runs::buffers::{rising, staggered};
 use test_runs::tally::number_of;
-use test_store::Bytes;
-
-// The list that bursts write in.
-const LIST_ROOM: usize = 272;
-
-// The store's bytes, and two behind them, so that too long a store can be lent.
-const STORE_ROOM: usize = STORE_LENGTH + 2;
-
-// The outgoing buffer.
-const OUT_ROOM: usize = 258;
+use test_store::{BorrowingBytes, OUT_ROOM, STORE_ROOM};
 
 // How many digits the largest seed has.
 const DIGITS: usize = 10;
@@ -37,12 +28,12 @@ fn main(rt: HostRuntime) {
 fn sizes_run<R: Print>(rt: &R, seed: u32, calls: u64) {
     let mut list = [0; LIST_ROOM];
     rising(&mut list, 0, 5);
-    test_runs::run(
+    test_runs::run_borrowing(
         rt,
         b"order",
         seed,
         calls,
-        &mut Sizes::new(),
+        &mut BorrowingSizes::new(),
         &mut list,
         &mut [],
     );
@@ -53,12 +44,12 @@ fn bytes_run<R: Print>(rt: &R, seed: u32, calls: u64) {
     staggered(&mut store);
     let mut out = [0; OUT_ROOM];
     rising(&mut out, 0, 3);
-    test_runs::run(
+    test_runs::run_borrowing(
         rt,
         b"store",
         seed,
         calls,
-        &mut Bytes::new(),
+        &mut BorrowingBytes::new(),
         &mut store,
         &mut out,
     );
@@ -72,4 +63,71 @@ fn argument<R: Env>(rt: &R, i: usize) -> Option<u32> {
 fn short_row<R: Print>(rt: &R) {
     let left = Site::new().depart(&[0; STORE_LENGTH - 1], &mut [0; 255]);
     let _ = println!(rt; "row={}", number_of(left.reply));
+}
+
+#[cfg(test)]
+mod tests {
+    use std::cell::RefCell;
+    use std::fmt::{Display, Write};
+    use std::io;
+    use std::test::Fail;
+    use test_order::Sizes;
+    use test_store::Bytes;
+
+    // What is printed is kept. It is ASCII, so that each byte is a character.
+    #[derive(Drop)]
+    struct Kept {
+        text: RefCell<String>,
+    }
+
+    impl Print for Kept {
+        fn print<D: Display + Drop>(&self, value: D) -> io::Result<()> {
+            if let Ok(mut text) = self.text.try_borrow_mut() {
+                let _ = write!(*text, "{value}");
+            }
+            Ok(())
+        }
+
+        fn println<D: Display + Drop>(&self, value: D) -> io::Result<()> {
+            if let Ok(mut text) = self.text.try_borrow_mut() {
+                let _ = writeln!(*text, "{value}");
+            }
+            Ok(())
+        }
+
+        fn write_all(&self, bytes: &[u8]) -> io::Result<()> {
+            if let Ok(mut text) = self.text.try_borrow_mut() {
+                for &byte in bytes {
+                    let _ = write!(*text, "{}", byte as char);
+                }
+            }
+            Ok(())
+        }
+    }
+
+    // The lines of the independent program's `calls 7 2500`, but for the last.
+    const EXPECTED: &str = "order calls=1000 check=312919748
+order calls=2000 check=435523576
+order calls=2500 check=1744484708
+order replies 80 20 79 587 82 93 0 0 11 0 21 678 350 305 194
+store calls=1000 check=1900106176
+store calls=2000 check=555448907
+store calls=2500 check=3563061925
+store replies 72 20 79 545 39 191 43 189 0 0 21 551 534 216 0
+";
+
+    // A layer with its own buffers is called as one that is lent them.
+    #[test]
+    fn layers_with_own_buffers(rt: HostRuntime) -> Result<(), Fail> {
+        let kept = Kept {
+            text: RefCell::new(String::new(rt.alloc())),
+        };
+        test_runs::run(&kept, "order", 7, 2500, &mut Sizes::new());
+        test_runs::run(&kept, "store", 7, 2500, &mut Bytes::new());
+        let text = kept.text.try_borrow()?;
+        (text.as_str() == EXPECTED)
+            .then_some(())
+            .ok_or("the lines differ")?;
+        Ok(())
+    }
 }

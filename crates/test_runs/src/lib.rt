@@ -11,8 +11,8 @@ pub mod tally;
 
 const CALLS_TO_A_LINE: u64 = 1000;
 
-// A scheduler of one layer.
-pub trait Layer {
+// A scheduler of one layer, whose calls are lent the caller's buffers.
+pub trait BorrowingLayer {
     // Makes a call, which is lent the first bytes of these buffers, and takes in what it replies. Each layer matches the kinds itself: its calls are lent other
     // buffers.
     fn make(&mut self, call: &Call, kept: &mut [u8], out: &mut [u8], tally: &mut Tally);
@@ -20,7 +20,7 @@ pub trait Layer {
 
 // Makes the calls on a layer, lending them two buffers. After every 1,000 and after the last the buffer that is kept is folded and a line printed, and then how
 // often each reply was given. A write that fails is passed over.
-pub fn run<R: Print, L: Layer>(
+pub fn run_borrowing<R: Print, L: BorrowingLayer>(
     rt: &R,
     part: &[u8],
     seed: u32,
@@ -34,7 +34,7 @@ pub fn run<R: Print, L: Layer>(
     for before in 0..calls {
         let n = before + 1;
         layer.make(&draws.call(before), kept, out, &mut tally);
-        if n == calls || n % CALLS_TO_A_LINE == 0 {
+        if ends_a_line(n, calls) {
             tally.fold_all(kept);
             let _ = rt.write_all(part);
             let _ = println!(rt; " calls={n} check={}", tally.check());
@@ -46,4 +46,55 @@ pub fn run<R: Print, L: Layer>(
         let _ = print!(rt; " {count}");
     }
     let _ = println!(rt);
+}
+
+// A scheduler of one layer, with the buffers that its calls are lent.
+pub trait Layer {
+    // Makes a call, and takes in what it replies.
+    fn make(&mut self, call: &Call, tally: &mut Tally);
+
+    // The buffer that is folded before each line.
+    fn kept(&self) -> &[u8];
+}
+
+// Makes the calls on a layer with its own buffers, and prints what `run_borrowing` does.
+pub fn run<R: Print, L: Layer>(rt: &R, part: &str, seed: u32, calls: u32, layer: &mut L) {
+    let calls = u64::from(calls);
+    let mut layer = WithOwnBuffers {
+        layer,
+        made: 0,
+        calls,
+    };
+    run_borrowing(
+        rt,
+        part.as_bytes(),
+        seed,
+        calls,
+        &mut layer,
+        &mut [],
+        &mut [],
+    );
+}
+
+// A layer that is lent no buffers, and folds its own before each line: so it counts the calls that it made.
+#[derive(Drop)]
+struct WithOwnBuffers<'a, L> {
+    layer: &'a mut L,
+    made: u64,
+    calls: u64,
+}
+
+impl<L: Layer> BorrowingLayer for WithOwnBuffers<'_, L> {
+    fn make(&mut self, call: &Call, _: &mut [u8], _: &mut [u8], tally: &mut Tally) {
+        self.layer.make(call, tally);
+        self.made = self.made.wrapping_add(1);
+        if ends_a_line(self.made, self.calls) {
+            tally.fold_all(self.layer.kept());
+        }
+    }
+}
+
+// Whether a line is printed when so many of the calls are made.
+fn ends_a_line(made: u64, calls: u64) -> bool {
+    made == calls || made % CALLS_TO_A_LINE == 0
 }
