@@ -42,10 +42,7 @@ pub fn run_borrowing<R: Print, L: BorrowingLayer>(
     }
     let _ = rt.write_all(part);
     let _ = print!(rt; " replies");
-    for count in tally.counts() {
-        let _ = print!(rt; " {count}");
-    }
-    let _ = println!(rt);
+    print_counts(rt, &tally);
 }
 
 // A scheduler of one layer, with the buffers that its calls are lent.
@@ -57,44 +54,30 @@ pub trait Layer {
     fn kept(&self) -> &[u8];
 }
 
-// Makes the calls on a layer with its own buffers, and prints what `run_borrowing` does.
+// Makes the calls on a layer with its own buffers, and prints what `run_borrowing` does: the part's name, which is a text here, together with what follows it.
 pub fn run<R: Print, L: Layer>(rt: &R, part: &str, seed: u32, calls: u32, layer: &mut L) {
-    let calls = u64::from(calls);
-    let mut layer = WithOwnBuffers {
-        layer,
-        made: 0,
-        calls,
-    };
-    run_borrowing(
-        rt,
-        part.as_bytes(),
-        seed,
-        calls,
-        &mut layer,
-        &mut [],
-        &mut [],
-    );
-}
-
-// A layer that is lent no buffers, and folds its own before each line: so it counts the calls that it made.
-#[derive(Drop)]
-struct WithOwnBuffers<'a, L> {
-    layer: &'a mut L,
-    made: u64,
-    calls: u64,
-}
-
-impl<L: Layer> BorrowingLayer for WithOwnBuffers<'_, L> {
-    fn make(&mut self, call: &Call, _: &mut [u8], _: &mut [u8], tally: &mut Tally) {
-        self.layer.make(call, tally);
-        self.made = self.made.wrapping_add(1);
-        if ends_a_line(self.made, self.calls) {
-            tally.fold_all(self.layer.kept());
+    let mut draws = Draws::new(seed);
+    let mut tally = Tally::new();
+    for before in 0..calls {
+        let made = before + 1;
+        layer.make(&draws.call(before.into()), &mut tally);
+        if ends_a_line(made.into(), calls.into()) {
+            tally.fold_all(layer.kept());
+            let _ = println!(rt; "{part} calls={made} check={}", tally.check());
         }
     }
+    let _ = print!(rt; "{part} replies");
+    print_counts(rt, &tally);
 }
 
 // Whether a line is printed when so many of the calls are made.
 fn ends_a_line(made: u64, calls: u64) -> bool {
     made == calls || made % CALLS_TO_A_LINE == 0
+}
+
+fn print_counts<R: Print>(rt: &R, tally: &Tally) {
+    for count in tally.counts() {
+        let _ = print!(rt; " {count}");
+    }
+    let _ = println!(rt);
 }
